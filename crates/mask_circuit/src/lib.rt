@@ -1,0 +1,17 @@
+//! Circuits over bits, as masked evaluation takes them: inputs, a list of gates, and the values handed out.
+//!
+//! This crate also holds, in `specs/`, the definitions that all contracts of masking cite.
+#![tactic(auto)]
+
+mod builders;
+mod circuits;
+mod gates;
+mod limits;
+
+pub use builders::{Builder, CircuitError};
+pub use circuits::Circuit;
+pub use gates::Gate;
+pub use limits::{MAX_OUTPUTS, MAX_VALUES};
+
+#[cfg(test)]
+mod tests;
