@@ -1,2 +1,9 @@
+pub mod Acceptance
+pub mod Expansion
+pub mod Need
 pub mod Netlist
+pub mod Probing
+pub mod Ring
+pub mod Shift
 pub mod Value
+pub mod Wires
