@@ -6,6 +6,8 @@
 
 mod bits;
 mod readings;
+mod square;
 
 pub use bits::Bits;
 pub use readings::{bits_high_first, bits_low_first, bytes_of_high, bytes_of_low};
+pub use square::transpose_64;

@@ -13,10 +13,14 @@ ghost use Rattle.std.specs.Prelude.{◌≡◌, ℕ, List, [], length, Option, Is
 ghost use Rattle.std.specs.Io.KnownBytes.{Appends};
 ghost use Rattle.mask_io.specs.Outside.{Rose, NeverFalls, Gives, Accepts, Takes, Fails, AppendsProperPrefix};
 
+mod adapters;
 mod calls;
 mod memory;
+mod seed;
 
+pub use adapters::{FileEntropy, StdSink, StdSource};
 pub use memory::{ClosedEntropy, ClosedSource, MemEntropy, MemSink, MemSource, SureSource};
+pub use seed::SeedEntropy;
 
 /// The one fault of the outside. Which object failed is told by its count.
 #[derive(Clone, Copy, Debug, PartialEq, Eq)]

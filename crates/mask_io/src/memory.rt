@@ -349,9 +349,11 @@ pub struct ClosedEntropy {
 }
 
 impl Model for ClosedEntropy {
-    ghost Value = { ℕ × ℕ };
+    ghost use Rattle.mask_io.specs.Outside.{Refusals};
 
-    ghost view = { λ s. (s.faults, s.wanted) };
+    ghost Value = { Refusals };
+
+    ghost view = { λ s. record { faults = s.faults; wanted = s.wanted } };
 }
 
 impl ClosedEntropy {
@@ -371,17 +373,17 @@ impl ClosedEntropy {
 impl Entropy for ClosedEntropy {
     ghost left = { λ _. None };
 
-    ghost faults = { λ s. s.0 };
+    ghost faults = { λ s. s.faults };
 
-    ghost wanted = { λ s. s.1 };
+    ghost wanted = { λ s. s.wanted };
 
     fn fill(&mut self, buf: &mut [u8]) -> Result<(), Failed>
         ensures ok { OnOk result (Takes None None buf.new) }
-        ensures err { OnErr result (Fails None None self.old.0 self.new.0) }
-        ensures never_falls { NeverFalls self.old.0 self.new.0 }
-        ensures wants { MatchResult result (λ _. self.new.1 ≡ self.old.1) (λ _. self.new.1 ≡ length buf.old) }
+        ensures err { OnErr result (Fails None None self.old.faults self.new.faults) }
+        ensures never_falls { NeverFalls self.old.faults self.new.faults }
+        ensures wants { MatchResult result (λ _. self.new.wanted ≡ self.old.wanted) (λ _. self.new.wanted ≡ length buf.old) }
         ensures closed { IsErr result }
-        ensures count { self.new ≡ (counted self.old.0, length buf.old) }
+        ensures count { self.new ≡ record { faults = counted self.old.faults; wanted = length buf.old } }
     {
         self.faults = self.faults.saturating_add(1);
         self.wanted = buf.len();
