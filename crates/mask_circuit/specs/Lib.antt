@@ -1,2 +1,4 @@
+pub mod Labels
 pub mod Netlist
+pub mod Text
 pub mod Value
