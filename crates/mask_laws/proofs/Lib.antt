@@ -1,2 +1,4 @@
+pub mod LocalNumbers
 pub mod Members
 pub mod Names
+pub mod Places

@@ -32,7 +32,7 @@ pub third_of_three : {A : Type 0} (a b c : A) → Contains (a ∷ b ∷ c ∷ []
 third_of_three a b c = (2, omega arith, refl)
 
 -- below n + 1 is below n or n
-below_cases : (i n : ℕ) → i < suc n → (i < n) ⊎ (i ≡ n)
+pub below_cases : (i n : ℕ) → i < suc n → (i < n) ⊎ (i ≡ n)
 below_cases i n lt = elim (cases_lt i n) [ inl l ↦ inl l | inr g ↦ inr (omega arith) ]
 
 -- an element of f 0, .., f (n - 1) is some f i

@@ -81,15 +81,15 @@ share_backward n (Partial i k) h = absurd h
 -- PRODUCTS
 
 -- the parts of the list of names: all a_i · b_j ..
-products : ℕ → List Wire
+unfoldable pub products : ℕ → List Wire
 products n = joined (λ i. each (Product i) n) n
 
 -- .. the three wires of each pair ..
-of_pair : Pair → List Wire
+unfoldable pub of_pair : Pair → List Wire
 of_pair p = Fresh p.0 p.1 ∷ Left p.0 p.1 ∷ Right p.0 p.1 ∷ []
 
 -- .. and the rows
-rows : ℕ → List Wire
+unfoldable pub rows : ℕ → List Wire
 rows n = joined (λ i. each (λ m. row_wire n i (other i m)) (pred n)) n
 
 products_forward : (n : ℕ) (w : Wire) → Contains (products n) w → IsProductName n w
@@ -161,7 +161,7 @@ product_backward n (Partial i k) two h =
 -- REFRESHES
 
 -- the three wires of each pair
-updates : ℕ → Pair → List Wire
+unfoldable pub updates : ℕ → Pair → List Wire
 updates n p = Fresh p.0 p.1 ∷ row_wire n p.0 p.1 ∷ row_wire n p.1 p.0 ∷ []
 
 refresh_forward : (n : ℕ) (w : Wire) → Contains (refresh_names n) w → IsRefreshName n w

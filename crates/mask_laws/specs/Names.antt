@@ -51,3 +51,55 @@ IsGateName n (Ref u) = IsRefreshName n
 -- The list of a gate's names has just the names of these shapes.
 abbrev pub GateHasNames : Type 0
 GateHasNames = (N : ℕ) (g : Gate) (w : Wire) → 2 ≤ N → Contains (gate_names N g) w ↔ IsGateName N g w
+
+-- how many pairs of n shares stand before those of row i
+abbrev pub pairs_before : ℕ → ℕ → ℕ
+pairs_before n zero = 0
+pairs_before n (suc i) = pairs_before n i + (n - suc i)
+
+-- the number of the pair (i, j) among the pairs of n shares
+abbrev pub pair_number : ℕ → ℕ → ℕ → ℕ
+pair_number n i j = pairs_before n i + (j - suc i)
+
+-- how many pairs n shares have
+abbrev pub pair_count : ℕ → ℕ
+pair_count n = n * (n - 1) / 2
+
+-- where the pairs of n shares stand in their list, and how many there are
+pub record PairsInOrder (n : ℕ) : Type 0 where
+  pub pair : (i j : ℕ) → IsPair n i j → slice_get (pairs n) (pair_number n i j) ≡ Some (i, j)
+  pub length : length (pairs n) ≡ pair_count n
+
+-- The local numbers of a product: all a_i · b_j, row by row; three wires for each pair; the partial sums of each row,
+-- up to its column number m, of which the last is the output share.
+pub record ProductInOrder (n : ℕ) : Type 0 where
+  pub product : (i j : ℕ) → i < n → j < n → slice_get (product_names n) (i * n + j) ≡ Some (Product i j)
+  pub fresh : (i j : ℕ) → IsPair n i j → slice_get (product_names n) (n * n + 3 * pair_number n i j) ≡ Some (Fresh i j)
+  pub left : (i j : ℕ) → IsPair n i j → slice_get (product_names n) (n * n + 3 * pair_number n i j + 1) ≡ Some (Left i j)
+  pub right : (i j : ℕ) → IsPair n i j → slice_get (product_names n) (n * n + 3 * pair_number n i j + 2) ≡ Some (Right i j)
+  pub row : (i m : ℕ) → i < n → m < n - 1 →
+      slice_get (product_names n) (n * n + 3 * pair_count n + i * (n - 1) + m) ≡ Some (row_wire n i (other i m))
+  pub length : length (product_names n) ≡ n * n + 3 * pair_count n + n * (n - 1)
+
+-- The local numbers of a refresh: for each pair its fresh bit, the lower share after its update, the higher one after its own.
+pub record RefreshInOrder (n : ℕ) : Type 0 where
+  pub fresh : (i j : ℕ) → IsPair n i j → slice_get (refresh_names n) (3 * pair_number n i j) ≡ Some (Fresh i j)
+  pub lower : (i j : ℕ) → IsPair n i j → slice_get (refresh_names n) (3 * pair_number n i j + 1) ≡ Some (row_wire n i j)
+  pub higher : (i j : ℕ) → IsPair n i j → slice_get (refresh_names n) (3 * pair_number n i j + 2) ≡ Some (row_wire n j i)
+  pub length : length (refresh_names n) ≡ 3 * pair_count n
+
+-- A gate that acts share by share has its shares in order.
+pub record SharesInOrder (n : ℕ) : Type 0 where
+  pub share : (i : ℕ) → i < n → slice_get (share_names n) i ≡ Some (Share i)
+  pub length : length (share_names n) ≡ n
+
+-- Each name stands at its local number.
+pub record NamesInOrder (n : ℕ) : Type 0 where
+  pub pairs : PairsInOrder n
+  pub shares : SharesInOrder n
+  pub product : ProductInOrder n
+  pub refresh : RefreshInOrder n
+
+-- Each name of each list stands at its local number, for every number of shares.
+abbrev pub AllNamesInOrder : Type 0
+AllNamesInOrder = (n : ℕ) → NamesInOrder n
