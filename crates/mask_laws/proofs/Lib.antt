@@ -1,4 +1,10 @@
+pub mod Bits
+pub mod Flips
+pub mod FreshBits
 pub mod LocalNumbers
 pub mod Members
 pub mod Names
+pub mod Needs
 pub mod Places
+pub mod Sets
+pub mod Sums

@@ -1,5 +1,6 @@
 //! What is proved of a single gate: which wires it has, what is kept where it is watched, and how little it demands.
 ghost use Rattle.mask_laws.specs.Names.{AllNamesInOrder, GateHasNames};
+ghost use Rattle.mask_laws.specs.Needs.{NeedsAreSmall};
 
 /// Which wires a gate has, for two shares or more. A product has each `a_i · b_j`; for each pair `i < j` the fresh bit
 /// `r_ij`, then `v_ij = r_ij + a_i · b_j` and `r_ji = v_ij + a_j · b_i`; and for each row its partial sums, of which the
@@ -14,5 +15,12 @@ pub fn gates_have_names()
 /// `n` shares, a product has `n² + 3w + n(n - 1)` wires and a refresh `3w`.
 pub fn names_stand_in_order()
     ensures { AllNamesInOrder }
+{
+}
+
+/// Inner probes on a product demand no more shares of either operand than there are probes, and those on a refresh no
+/// more shares of its operand: each probe adds one share at most.
+pub fn probes_demand_few_shares()
+    ensures { NeedsAreSmall }
 {
 }
