@@ -6,5 +6,6 @@ pub mod Members
 pub mod Names
 pub mod Needs
 pub mod Places
+pub mod Refreshes
 pub mod Sets
 pub mod Sums

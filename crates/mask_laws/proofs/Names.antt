@@ -5,6 +5,7 @@ use Rattle.std.proofs.lemmas.List.Elements.{Contains-append_left, Contains-appen
 use Rattle.mask_circuit.specs.declared.gates.Gate.{Gate}
 use Rattle.mask_circuit.specs.declared.gates.Gate.TheVariants.{Zero, One, Xor, Not, And, Ref}
 use Rattle.mask_circuit.specs.Wires.{Wire, Share, Product, Fresh, Left, Right, Partial, Pair, each, joined, row_pairs, pairs, other, is_last, row_wire, share_names, product_names, refresh_names, gate_names}
+use Rattle.mask_circuit.specs.Probing.{same_wire}
 use Rattle.mask_laws.specs.Names.{IsShareName, IsPair, IsInnerColumn, IsProductName, IsRefreshName, IsGateName, GateHasNames}
 use Rattle.mask_laws.proofs.Members.{first_of_three, second_of_three, third_of_three, each_place, Contains-each, joined_piece, Contains-joined, flat_map_piece, Contains-flat_map, holds_of_three}
 
@@ -210,3 +211,12 @@ gate_names-by_shape N (Xor u v) w two = (share_forward N w, share_backward N w)
 gate_names-by_shape N (Not u) w two = (share_forward N w, share_backward N w)
 gate_names-by_shape N (And u v) w two = (product_forward N w, product_backward N w two)
 gate_names-by_shape N (Ref u) w two = (refresh_forward N w, refresh_backward N w two)
+
+-- a name is the same as itself
+pub same_wire_self : (w : Wire) → same_wire w w ≡ true
+same_wire_self (Share i) = eq-eqb i i refl
+same_wire_self (Product i j) = and_from (i == i) (j == j) (eq-eqb i i refl) (eq-eqb j j refl)
+same_wire_self (Fresh i j) = and_from (i == i) (j == j) (eq-eqb i i refl) (eq-eqb j j refl)
+same_wire_self (Left i j) = and_from (i == i) (j == j) (eq-eqb i i refl) (eq-eqb j j refl)
+same_wire_self (Right i j) = and_from (i == i) (j == j) (eq-eqb i i refl) (eq-eqb j j refl)
+same_wire_self (Partial i j) = and_from (i == i) (j == j) (eq-eqb i i refl) (eq-eqb j j refl)

@@ -13,7 +13,7 @@ either : {P : Type 0} (x y : Bool) → (x ≡ true → P) → (y ≡ true → P)
 either x y f g h = elim (or_cases x y h) [ inl e ↦ f e | inr e ↦ g e ]
 
 -- the row that a wire of a product belongs to, if there is one
-pub row_of : Wire → ℕ
+unfoldable pub row_of : Wire → ℕ
 row_of (Share k) = 0
 row_of (Product k l) = k
 row_of (Fresh k l) = k
