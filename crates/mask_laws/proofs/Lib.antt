@@ -6,6 +6,7 @@ pub mod Members
 pub mod Names
 pub mod Needs
 pub mod Places
+pub mod Products
 pub mod Refreshes
 pub mod Sets
 pub mod Sums
