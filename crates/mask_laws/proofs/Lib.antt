@@ -1,6 +1,7 @@
 pub mod Bits
 pub mod Flips
 pub mod FreshBits
+pub mod Gates
 pub mod LocalNumbers
 pub mod Members
 pub mod Names
@@ -10,3 +11,4 @@ pub mod Products
 pub mod Refreshes
 pub mod Sets
 pub mod Sums
+pub mod Symmetry

@@ -1,4 +1,5 @@
 //! What is proved of a single gate: which wires it has, what is kept where it is watched, and how little it demands.
+ghost use Rattle.mask_laws.specs.Gadgets.{GateKeeps, MaskIsSymmetric};
 ghost use Rattle.mask_laws.specs.Names.{AllNamesInOrder, GateHasNames};
 ghost use Rattle.mask_laws.specs.Needs.{NeedsAreSmall};
 
@@ -22,5 +23,21 @@ pub fn names_stand_in_order()
 /// more shares of its operand: each probe adds one share at most.
 pub fn probes_demand_few_shares()
     ensures { NeedsAreSmall }
+{
+}
+
+/// Product and refresh are strongly non-interfering, and the other gates keep what is watched too. Take inner probes and
+/// demanded output shares of a gate, together fewer than its shares, and two sides of operands that agree on the shares
+/// that the probes and the gate demand. Then each probed wire and each demanded output share carries, on the first side
+/// with any fresh bits, what it carries on the second with those fresh bits xored with the gate's mask. So nobody who
+/// watches these wires can tell the sides apart, since adding a mask only reorders the fresh bits.
+pub fn gates_keep_what_is_watched()
+    ensures { GateKeeps }
+{
+}
+
+/// The mask of a gate is the same with the sides changed, so adding it twice gives back the fresh bits.
+pub fn masks_are_symmetric()
+    ensures { MaskIsSymmetric }
 {
 }
