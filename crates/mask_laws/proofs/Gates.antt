@@ -70,8 +70,10 @@ gate_keeps N One Q O s s' r two inner fits agree e w watched =
     shares_keep N Q O (λ i. cond (i == 0) true false) (λ i. cond (i == 0) true false) inner (λ i hi h. refl) w watched
 gate_keeps N (Xor u v) Q O s s' r two inner fits agree e w watched =
     shares_keep N Q O (λ i. xor (s u i) (s v i)) (λ i. xor (s' u i) (s' v i)) inner
-    (λ i hi h. rw (agree u i hi (and_from (u == u || u == v) (O i) (or_left (u == u) (u == v) (eq-eqb u u refl)) h),
-    agree v i hi (and_from (v == u || v == v) (O i) (or_right (v == u) (v == v) (eq-eqb v v refl)) h)) refl) w watched
+    (λ i hi h. rw (
+      agree u i hi (and_from (u == u || u == v) (O i) (or_left (u == u) (u == v) (eq-eqb u u refl)) h),
+      agree v i hi (and_from (v == u || v == v) (O i) (or_right (v == u) (v == v) (eq-eqb v v refl)) h),
+    ) refl) w watched
 gate_keeps N (Not u) Q O s s' r two inner fits agree e w watched =
     shares_keep N Q O (λ i. cond (i == 0) (xor (s u i) true) (s u i)) (λ i. cond (i == 0) (xor (s' u i) true) (s' u i)) inner
     (λ i hi h. ap (λ b. cond (i == 0) (xor b true) b) (agree u i hi (and_from (u == u) (O i) (eq-eqb u u refl) h))) w watched

@@ -1,6 +1,7 @@
 pub mod Bits
 pub mod Flips
 pub mod FreshBits
+pub mod GateExamples
 pub mod Gates
 pub mod LocalNumbers
 pub mod Members
