@@ -1,14 +1,13 @@
 -- Flips: each demanded row that would change has a partner, and the flip of their bit touches nothing that is watched.
-use Rattle.std.proofs.Common.{◌≡◌, ◌≢◌, ℕ, zero, suc, ◌+◌, ◌<◌, ◌≤◌, ◌⊎◌, inl, inr, Bool, true, false, cond, not, ◌&&◌, ◌||◌, ◌==◌, nat_lt, List, [], ◌∷◌, length, Some, None, Option, refl, sym, ap, ◌∙◌, subst, true≢false, arith, eq-eqb, eqb-true, ne_eqb, lt-ltb, le-ltb}
+use Rattle.std.proofs.Common.{◌≡◌, ◌≢◌, ℕ, zero, suc, ◌+◌, ◌<◌, inl, inr, Bool, true, false, cond, not, ◌&&◌, ◌||◌, ◌==◌, nat_lt, List, length, Some, None, Option, refl, sym, ap, ◌∙◌, true≢false, arith, eq-eqb, eqb-true, lt-ltb, le-ltb}
 use Rattle.std.specs.List.{list_any}
-use Rattle.std.proofs.lemmas.Bool.{cases_lt, false_from_ne_true, and_parts, not-true, not-false, or_cases, or_left, or_right, or_from, eqb-false}
-use Rattle.mask_circuit.specs.Value.{xor}
+use Rattle.std.proofs.lemmas.Bool.{cases_lt, false_from_ne_true, and_parts, not-true, eqb-false}
 use Rattle.mask_circuit.specs.Wires.{Wire}
 use Rattle.mask_circuit.specs.Probing.{size, same_wire}
 use Rattle.mask_circuit.specs.Need.{ShareSet}
-use Rattle.mask_circuit.specs.Shift.{is_probed, wire_between, least, partner, is_some_of, flipped}
+use Rattle.mask_circuit.specs.Shift.{is_probed, wire_between, least, partner, is_some_of}
 use Rattle.mask_laws.proofs.Members.{below_cases}
-use Rattle.mask_laws.proofs.Sets.{size-mono, size-or, size-all, size-owned, list_any-or}
+use Rattle.mask_laws.proofs.Sets.{size-or, size-all, size-owned, list_any-or}
 
 -- THE LEAST NUMBER THAT PASSES
 

@@ -1,12 +1,11 @@
 -- The names of a gate's wires, by their shapes.
-use Rattle.std.proofs.Common.{◌≡◌, ◌≢◌, ℕ, zero, suc, pred, ◌+◌, ◌-◌, ◌<◌, ◌≤◌, ◌⊎◌, ◌↔◌, inl, inr, Bool, true, false, cond, ◌&&◌, ◌||◌, ◌==◌, nat_lt, List, [], ◌∷◌, ◌++◌, Contains, flat_map, refl, sym, ap, ◌∙◌, subst, arith, lt-ltb, le-ltb, eq-eqb, ne_eqb, eqb-true}
-use Rattle.std.proofs.lemmas.Bool.{cases_lt, cases_eq, cases_order, cond-true, cond-false, or_right, or_left, and_from, and_left}
+use Rattle.std.proofs.Common.{◌≡◌, ◌≢◌, ℕ, suc, pred, ◌+◌, ◌-◌, ◌<◌, ◌≤◌, inl, inr, Bool, true, false, ◌==◌, List, [], ◌∷◌, ◌++◌, Contains, flat_map, refl, sym, ap, subst, arith, lt-ltb, le-ltb, eq-eqb}
+use Rattle.std.proofs.lemmas.Bool.{cases_lt, cases_eq, cond-true, cond-false, or_right, or_left, and_from}
 use Rattle.std.proofs.lemmas.List.Elements.{Contains-append_left, Contains-append_right, Contains-append_cases}
-use Rattle.mask_circuit.specs.declared.gates.Gate.{Gate}
 use Rattle.mask_circuit.specs.declared.gates.Gate.TheVariants.{Zero, One, Xor, Not, And, Ref}
-use Rattle.mask_circuit.specs.Wires.{Wire, Share, Product, Fresh, Left, Right, Partial, Pair, each, joined, row_pairs, pairs, other, is_last, row_wire, share_names, product_names, refresh_names, gate_names}
+use Rattle.mask_circuit.specs.Wires.{Wire, Share, Product, Fresh, Left, Right, Partial, Pair, each, joined, row_pairs, pairs, other, is_last, row_wire, share_names, product_names, refresh_names}
 use Rattle.mask_circuit.specs.Probing.{same_wire}
-use Rattle.mask_laws.specs.Names.{IsShareName, IsPair, IsInnerColumn, IsProductName, IsRefreshName, IsGateName, GateHasNames}
+use Rattle.mask_laws.specs.Names.{IsShareName, IsPair, IsInnerColumn, IsProductName, IsRefreshName, GateHasNames}
 use Rattle.mask_laws.proofs.Members.{first_of_three, second_of_three, third_of_three, each_place, Contains-each, joined_piece, Contains-joined, flat_map_piece, Contains-flat_map, holds_of_three}
 
 -- PAIRS

@@ -1,12 +1,12 @@
 -- The law of a product.
-use Rattle.std.proofs.Common.{◌≡◌, ◌≢◌, ℕ, zero, suc, pred, ◌+◌, ◌<◌, ◌≤◌, ◌⊎◌, inl, inr, Bool, true, false, cond, not, ◌&&◌, ◌||◌, ◌==◌, nat_lt, List, [], ◌∷◌, length, All, Contains, Some, Option, refl, sym, ap, ◌∙◌, subst, arith, eq-eqb, lt-ltb, le-ltb}
+use Rattle.std.proofs.Common.{◌≡◌, ◌≢◌, ℕ, pred, ◌<◌, inl, inr, Bool, true, false, cond, ◌&&◌, ◌==◌, nat_lt, List, All, Contains, Some, refl, sym, ◌∙◌, subst, arith, eq-eqb, lt-ltb, le-ltb}
 use Rattle.std.specs.List.{list_any}
-use Rattle.std.proofs.lemmas.Bool.{cases_lt, or_cases, or_left, or_right, and_from}
+use Rattle.std.proofs.lemmas.Bool.{cases_lt, or_cases, or_left, or_right}
 use Rattle.std.proofs.lemmas.List.Elements.{All-contains}
 use Rattle.mask_circuit.specs.Value.{xor}
 use Rattle.mask_circuit.specs.Ring.{bits}
 use Rattle.mask_circuit.specs.Wires.{Wire, Share, Product, Fresh, Left, Right, Partial, row_sum, cross, product_wire}
-use Rattle.mask_circuit.specs.Probing.{size, same_wire}
+use Rattle.mask_circuit.specs.Probing.{same_wire}
 use Rattle.mask_circuit.specs.Need.{ShareSet, is_share, is_of_row, product_rows, demands_left, demands_right, left_need, right_need}
 use Rattle.mask_circuit.specs.Shift.{Sides, product_change, is_probed, wire_between, partner, product_base, cross_change, share_change, product_mask}
 use Rattle.mask_laws.specs.Names.{IsPair, IsProductName}
@@ -16,7 +16,7 @@ use Rattle.mask_laws.proofs.Sums.{row_sum-same, row_sum-xor, row_sum-none, row_s
 use Rattle.mask_laws.proofs.Sets.{list_any-passes}
 use Rattle.mask_laws.proofs.Names.{same_wire_self}
 use Rattle.mask_laws.proofs.Needs.{row_of, row_is}
-use Rattle.mask_laws.proofs.Flips.{flip, has_partner, IsPartner, partner-Some, flip-from_touched, flip-to_touched, flip-probed, flip-to_demanded, flip-at_partner, wire_between-is, other_end, other_end-forth, other_end-back}
+use Rattle.mask_laws.proofs.Flips.{flip, has_partner, partner-Some, flip-from_touched, flip-to_touched, flip-probed, flip-to_demanded, flip-at_partner, wire_between-is, other_end, other_end-forth, other_end-back}
 
 -- PARTNERS
 

@@ -1,12 +1,11 @@
 -- The law of a refresh.
-use Rattle.std.proofs.Common.{◌≡◌, ◌≢◌, ℕ, zero, suc, pred, ◌+◌, ◌<◌, ◌≤◌, ◌⊎◌, inl, inr, Bool, true, false, cond, not, ◌&&◌, ◌||◌, ◌==◌, nat_lt, List, [], ◌∷◌, length, All, Contains, Some, Option, refl, sym, ap, ◌∙◌, subst, arith, eq-eqb, lt-ltb, le-ltb, true≢false}
-use Rattle.std.specs.List.{list_any}
-use Rattle.std.proofs.lemmas.Bool.{cases_lt, cases_Bool, or_cases}
+use Rattle.std.proofs.Common.{◌≡◌, ◌≢◌, ℕ, pred, ◌<◌, inl, inr, Bool, true, false, cond, ◌&&◌, ◌==◌, nat_lt, List, All, Contains, Some, refl, sym, ap, ◌∙◌, subst, arith, eq-eqb, lt-ltb, le-ltb}
+use Rattle.std.proofs.lemmas.Bool.{cases_lt, or_cases}
 use Rattle.std.proofs.lemmas.List.Elements.{All-contains}
 use Rattle.mask_circuit.specs.Value.{xor}
 use Rattle.mask_circuit.specs.Ring.{bits}
 use Rattle.mask_circuit.specs.Wires.{Wire, Share, Product, Fresh, Left, Right, Partial, row_sum, fresh_between, refresh_wire}
-use Rattle.mask_circuit.specs.Probing.{size, same_wire}
+use Rattle.mask_circuit.specs.Probing.{same_wire}
 use Rattle.mask_circuit.specs.Need.{ShareSet, is_share, is_update_of, refresh_need}
 use Rattle.mask_circuit.specs.Shift.{Sides, is_probed, wire_between, partner, refresh_mask}
 use Rattle.mask_laws.specs.Names.{IsPair, IsRefreshName}
@@ -16,7 +15,7 @@ use Rattle.mask_laws.proofs.Sums.{row_sum-same, row_sum-xor, row_sum-first, row_
 use Rattle.mask_laws.proofs.Sets.{list_any-passes}
 use Rattle.mask_laws.proofs.Names.{same_wire_self}
 use Rattle.mask_laws.proofs.Needs.{row_of, update_is}
-use Rattle.mask_laws.proofs.Flips.{flip, has_partner, IsPartner, partner-Some, flip-from_touched, flip-to_touched, flip-probed, flip-to_demanded, flip-at_partner, wire_between-is, wire_between_comm, other_end, other_end-forth, other_end-back}
+use Rattle.mask_laws.proofs.Flips.{flip, has_partner, partner-Some, flip-from_touched, flip-to_touched, flip-probed, flip-to_demanded, flip-at_partner, wire_between-is, other_end, other_end-forth, other_end-back}
 
 -- PARTNERS
 
