@@ -1,1 +1,3 @@
 pub mod Gadgets
+pub mod Names
+pub mod Needs

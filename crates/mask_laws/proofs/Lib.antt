@@ -1,0 +1,15 @@
+pub mod Bits
+pub mod Flips
+pub mod FreshBits
+pub mod GateExamples
+pub mod Gates
+pub mod LocalNumbers
+pub mod Members
+pub mod Names
+pub mod Needs
+pub mod Places
+pub mod Products
+pub mod Refreshes
+pub mod Sets
+pub mod Sums
+pub mod Symmetry
