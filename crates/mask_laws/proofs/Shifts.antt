@@ -13,10 +13,10 @@ use Rattle.mask_circuit.specs.Shift.{add_bits, gate_mask, shift_from}
 use Rattle.mask_laws.specs.Gadgets.{MaskIsSymmetric}
 use Rattle.mask_laws.proofs.Tapes.{sum_over_tapes-same, sum_over_tapes-add, sum_over_tapes-masked, length-add_bits, add_bits-twice}
 
-take_front : (w : ℕ) (a b : List Bool) → length a ≡ w → take w (a ++ b) ≡ a
+pub take_front : (w : ℕ) (a b : List Bool) → length a ≡ w → take w (a ++ b) ≡ a
 take_front w a b e = subst (λ (k : ℕ). take k (a ++ b) ≡ a) e (take-append_seam a b)
 
-drop_front : (w : ℕ) (a b : List Bool) → length a ≡ w → drop w (a ++ b) ≡ b
+pub drop_front : (w : ℕ) (a b : List Bool) → length a ≡ w → drop w (a ++ b) ≡ b
 drop_front w a b e = subst (λ (k : ℕ). drop k (a ++ b) ≡ b) e (drop-append_seam a b)
 
 -- how many fresh bits these gates draw
