@@ -1,7 +1,11 @@
+pub mod Confining
+pub mod Demands
+pub mod Fitting
 pub mod Keeping
 pub mod Names
 pub mod Probes
 pub mod Seen
 pub mod Shifts
+pub mod Sizes
 pub mod Tapes
 pub mod Traces

@@ -1,0 +1,1 @@
+-- In an accepted circuit a single probe demands at most one share of each source.

@@ -1,0 +1,1 @@
+-- Few probes of an accepted circuit fit.
