@@ -2,7 +2,7 @@ pub mod Confining
 pub mod Demands
 pub mod Fitting
 pub mod Keeping
-pub mod Names
+pub mod CircuitNames
 pub mod Probes
 pub mod Seen
 pub mod Shifts
