@@ -3,3 +3,4 @@
 //! Each law is the contract of a public function with nothing to do; a crate above calls it, or cites its lemma.
 #![tactic(auto)]
 
+pub mod gadgets;
