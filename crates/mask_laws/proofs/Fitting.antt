@@ -11,10 +11,23 @@ use Rattle.mask_circuit.specs.Probing.{size, same_wire}
 use Rattle.mask_circuit.specs.Need.{ShareSet, is_share, inner_probes, probed_shares, need_from}
 use Rattle.mask_circuit.specs.Acceptance.{gate_at, Reaches, ProductHere, RefreshHere, IsAccepted}
 use Rattle.mask_laws.specs.Circuits.{FitsAt, FitsFrom}
-use Rattle.mask_laws.proofs.Sizes.{size-same, size-none, size-one, size-or}
+use Rattle.mask_laws.proofs.Sets.{size-mono, size-none, size-or}
 use Rattle.mask_laws.proofs.Probes.{is_inner_at}
 use Rattle.mask_laws.proofs.Demands.{demand_part, need_part, touched, need_from-part, need_part-append, inner_probes-append}
 use Rattle.mask_laws.proofs.Confining.{AreGatesAt, IsConfined, at_most_one, probe_confined, same_wire-inner}
+
+-- a set with at most one element
+size-at_most_one : (n : ℕ) (f : ℕ → Bool) → ((i j : ℕ) → f i ≡ true → f j ≡ true → i ≡ j) → size n f ≤ 1
+size-at_most_one zero f h = omega arith
+size-at_most_one (suc n) f h = go (f n) refl (size-at_most_one n f h)
+  where
+    go : (b : Bool) → f n ≡ b → size n f ≤ 1 → size n f + cond b 1 0 ≤ 1
+    go false e small = omega arith
+    go true e small =
+        let outside : (i : ℕ) (b : Bool) → f i ≡ b → i < n → b ≡ false
+                = λ i b. (elim b as (λ (c : Bool). f i ≡ c → i < n → c ≡ false) [ true ↦ λ k l. absurd (let same : i ≡ n = h i n k e in omega arith) | false ↦ λ k l. refl ]) in
+        let none : size n f ≡ 0 = size-none n f (λ i k. outside i (f i) refl k) in
+        omega arith
 
 -- a gate with no inner probes and no demanded shares demands nothing
 demand_part-none : (T : ShareSet) (g : Gate) (v i : ℕ) → demand_part T g [] (λ j. false) v i ≡ false
@@ -56,7 +69,7 @@ one_at_source c T N p confined gs n at s source below = go (is_inner_at s p) ref
         let none : size N (need_part T (p ∷ []) gs n s) ≡ 0
                 = size-none N (need_part T (p ∷ []) gs n s) (λ i k. need_part-past T p.0 p.1 gs n s i (not-true (is_share p.1) both.1) (omega arith)) in
         omega arith
-    go false e = let one = size-one N (need_part T (p ∷ []) gs n s) (at_most_one c T p confined gs n at s source) in omega arith
+    go false e = let one = size-at_most_one N (need_part T (p ∷ []) gs n s) (at_most_one c T p confined gs n at s source) in omega arith
 
 -- a list of probes: their inner probes at a source and their demanded shares of it are no more than the probes
 pub all_at_source : (c : Netlist) (T : ℕ → ShareSet) (N : ℕ) → ((p : Place) → IsConfined c T p) → (L : List Place) (gs : List Gate) (n : ℕ) → AreGatesAt c gs n →
@@ -68,8 +81,8 @@ all_at_source c T N confined (p ∷ L) gs n at s source below =
     let others = all_at_source c T N confined L gs n at s source below in
     let inner : length (inner_probes s (p ∷ L)) ≡ length (inner_probes s (p ∷ [])) + length (inner_probes s L)
             = ap length (inner_probes-append s (p ∷ []) L) ∙ length-append (inner_probes s (p ∷ [])) (inner_probes s L) in
-    let union : size N (need_part T (p ∷ L) gs n s) ≡ size N (λ i. need_part T (p ∷ []) gs n s i || need_part T L gs n s i)
-            = size-same N _ _ (λ i. need_part-append T (p ∷ []) L gs n s i) in
+    let union : size N (need_part T (p ∷ L) gs n s) ≤ size N (λ i. need_part T (p ∷ []) gs n s i || need_part T L gs n s i)
+            = size-mono N _ _ (λ i k d. sym (need_part-append T (p ∷ []) L gs n s i) ∙ d) in
     let small = size-or N (need_part T (p ∷ []) gs n s) (need_part T L gs n s) in
     omega arith
 
@@ -78,7 +91,7 @@ pub source_count : (c : Netlist) (N : ℕ) (P : List Place) → IsAccepted c →
     length (inner_probes s P) + size N (need_from P gs n s) ≤ length P
 source_count c N P accepted gs n at s source below =
     let all = all_at_source c (touched P) N (λ p. probe_confined c (touched P) p accepted) P gs n at s source below in
-    let same : size N (need_from P gs n s) ≡ size N (need_part (touched P) P gs n s) = size-same N _ _ (λ i. need_from-part P gs n s i) in
+    let same : size N (need_from P gs n s) ≤ size N (need_part (touched P) P gs n s) = size-mono N _ _ (λ i k d. sym (need_from-part P gs n s i) ∙ d) in
     omega arith
 
 -- so fewer probes than shares fit ..

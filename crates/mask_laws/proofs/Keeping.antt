@@ -1,6 +1,6 @@
 -- The shift of a tape keeps what the probes see.
 use Rattle.std.proofs.Common.{◌≡◌, ℕ, zero, suc, ◌+◌, ◌<◌, ◌≤◌, Bool, true, false, ◌&&◌, ◌||◌, ◌==◌, ◌⊎◌, inl, inr, List, [], ◌∷◌, ◌++◌, length, take, drop, All, Contains, refl, ap, ap₂, sym, subst, ◌∙◌, arith, eq-eqb, eqb-true, cond, ⊎_elim, add-zero}
-use Rattle.std.proofs.lemmas.Bool.{and_parts, and_from, or_cases, false≢true}
+use Rattle.std.proofs.lemmas.Bool.{and_parts, and_from, or_cases, or_left, or_right, false≢true}
 use Rattle.std.proofs.lemmas.List.Elements.{All-contains}
 use Rattle.mask_circuit.specs.declared.gates.Gate.{Gate}
 use Rattle.mask_circuit.specs.declared.gates.Gate.TheVariants.{Zero, One, Xor, Not, And, Ref}
@@ -13,7 +13,7 @@ use Rattle.mask_circuit.specs.Need.{ShareSet, is_share, inner_probes, left_need,
 use Rattle.mask_circuit.specs.Shift.{add_bits, gate_mask, shift_from}
 use Rattle.mask_laws.specs.Gadgets.{AreInner, FitsGate, AgreeBefore, IsWatched, GateKeeps}
 use Rattle.mask_laws.specs.Circuits.{FitsAt, FitsFrom}
-use Rattle.mask_laws.proofs.Probes.{or_left, or_right, All-inner_probes, Contains-inner_probes}
+use Rattle.mask_laws.proofs.Probes.{All-inner_probes, Contains-inner_probes}
 use Rattle.mask_laws.proofs.Tapes.{length-add_bits}
 use Rattle.mask_laws.proofs.Traces.{put-same, run-earlier}
 use Rattle.mask_laws.proofs.Shifts.{draws_from, mask_at, trace_at, front_of_tape, take_front, drop_front}

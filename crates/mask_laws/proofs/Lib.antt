@@ -15,7 +15,6 @@ pub mod Probes
 pub mod Seen
 pub mod Sets
 pub mod Shifts
-pub mod Sizes
 pub mod Sums
 pub mod Tapes
 pub mod Traces
