@@ -15,6 +15,7 @@ pub mod Probes
 pub mod Seen
 pub mod Sets
 pub mod Shifts
+pub mod Simulation
 pub mod Sums
 pub mod Tapes
 pub mod Traces
