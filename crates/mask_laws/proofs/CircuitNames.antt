@@ -48,17 +48,17 @@ pub names_from-within : (N n : ℕ) (gs : List Gate) → 2 ≤ N → All (IsName
 names_from-within N n [] two = All-nil (IsNamedFrom N n (n + 0))
 names_from-within N n (g ∷ gs) two =
     All-append (IsNamedFrom N n (n + length (g ∷ gs))) (map (λ w. (n, w)) (gate_names N g)) (names_from N gs (suc n))
-        (All-map (IsNamedFrom N n (n + length (g ∷ gs))) (λ w. (n, w)) (gate_names N g)
-            (All-weaker (IsShareBelow N) (λ w. IsNamedFrom N n (n + length (g ∷ gs)) (n, w)) (λ w h. (le_refl n, omega arith, h)) (gate_names N g) (gate_names-below N g two)))
-        (All-weaker (IsNamedFrom N (suc n) (suc n + length gs)) (IsNamedFrom N n (n + length (g ∷ gs))) (λ p h. (omega arith, omega arith, h.2)) _ (names_from-within N (suc n) gs two))
+    (All-map (IsNamedFrom N n (n + length (g ∷ gs))) (λ w. (n, w)) (gate_names N g)
+    (All-weaker (IsShareBelow N) (λ w. IsNamedFrom N n (n + length (g ∷ gs)) (n, w)) (λ w h. (le_refl n, omega arith, h)) (gate_names N g) (gate_names-below N g two)))
+    (All-weaker (IsNamedFrom N (suc n) (suc n + length gs)) (IsNamedFrom N n (n + length (g ∷ gs))) (λ p h. (omega arith, omega arith, h.2)) _ (names_from-within N (suc n) gs two))
 
 -- a name that is in the list of the gates' names: either of the first gate, or of a later one
 names_from-cases : (N n : ℕ) (g : Gate) (gs : List Gate) (v : ℕ) (w : Wire) → Contains (names_from N (g ∷ gs) n) (v, w) →
     ((v ≡ n) × Contains (gate_names N g) w) ⊎ Contains (names_from N gs (suc n)) (v, w)
 names_from-cases N n g gs v w k = ⊎_elim
     (λ h. inl (All-contains (λ (p : Place). (p.0 ≡ n) × Contains (gate_names N g) p.1) (map (λ w. (n, w)) (gate_names N g)) (v, w)
-        (All-map (λ (p : Place). (p.0 ≡ n) × Contains (gate_names N g) p.1) (λ w. (n, w)) (gate_names N g)
-            (All-weaker (Contains (gate_names N g)) (λ w. (n ≡ n) × Contains (gate_names N g) w) (λ w c. (refl, c)) (gate_names N g) (All-contains_itself (gate_names N g)))) h))
+    (All-map (λ (p : Place). (p.0 ≡ n) × Contains (gate_names N g) p.1) (λ w. (n, w)) (gate_names N g)
+    (All-weaker (Contains (gate_names N g)) (λ w. (n ≡ n) × Contains (gate_names N g) w) (λ w c. (refl, c)) (gate_names N g) (All-contains_itself (gate_names N g)))) h))
     (λ h. inr h)
     (Contains-append_cases (map (λ w. (n, w)) (gate_names N g)) (names_from N gs (suc n)) (v, w) k)
 
@@ -92,6 +92,6 @@ pub AreNamed-from_names : (c : Netlist) (N : ℕ) (P : List Place) → 2 ≤ N �
 unfolding input_names
 AreNamed-from_names c N P two all = AreNamed-from N P c.gates c.inputs two
     (λ v w m k. ⊎_elim
-        (λ h. absurd (let below = All-contains (IsNamedFrom N 0 c.inputs) (input_names N c.inputs) (v, w) (input_names-within N c.inputs) h in omega arith))
-        (λ h. h)
-        (Contains-append_cases (input_names N c.inputs) (names_from N c.gates c.inputs) (v, w) (All-contains (Contains (names c N)) P (v, w) all k)))
+    (λ h. absurd (let below = All-contains (IsNamedFrom N 0 c.inputs) (input_names N c.inputs) (v, w) (input_names-within N c.inputs) h in omega arith))
+    (λ h. h)
+    (Contains-append_cases (input_names N c.inputs) (names_from N c.gates c.inputs) (v, w) (All-contains (Contains (names c N)) P (v, w) all k)))

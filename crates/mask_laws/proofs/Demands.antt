@@ -108,7 +108,7 @@ pub need_part-append : (T : ℕ → ShareSet) (L L' : List Place) (gs : List Gat
 need_part-append T L L' [] n v i = list_any-append (λ p. p.0 == v && same_wire (Share i) p.1) L L'
 need_part-append T L L' (g ∷ gs) n v i =
     or_both _ (need_part T L gs (suc n) v i) (need_part T L' gs (suc n) v i) _
-        (demand_part (T n) g (inner_probes n L) (need_part T L gs (suc n) n) v i) (demand_part (T n) g (inner_probes n L') (need_part T L' gs (suc n) n) v i)
-        (need_part-append T L L' gs (suc n) v i)
-        (ap₂ (λ (Q : List Wire) (O : ShareSet). demand_part (T n) g Q O v i) (inner_probes-append n L L') (λ d j. need_part-append T L L' gs (suc n) n j d)
-         ∙ demand_part-append (T n) g (inner_probes n L) (inner_probes n L') (need_part T L gs (suc n) n) (need_part T L' gs (suc n) n) v i)
+    (demand_part (T n) g (inner_probes n L) (need_part T L gs (suc n) n) v i) (demand_part (T n) g (inner_probes n L') (need_part T L' gs (suc n) n) v i)
+    (need_part-append T L L' gs (suc n) v i)
+    (ap₂ (λ (Q : List Wire) (O : ShareSet). demand_part (T n) g Q O v i) (inner_probes-append n L L') (λ d j. need_part-append T L L' gs (suc n) n j d)
+    ∙ demand_part-append (T n) g (inner_probes n L) (inner_probes n L') (need_part T L gs (suc n) n) (need_part T L' gs (suc n) n) v i)

@@ -25,7 +25,7 @@ size-at_most_one (suc n) f h = go (f n) refl (size-at_most_one n f h)
     go false e small = omega arith
     go true e small =
         let outside : (i : ℕ) (b : Bool) → f i ≡ b → i < n → b ≡ false
-                = λ i b. (elim b as (λ (c : Bool). f i ≡ c → i < n → c ≡ false) [ true ↦ λ k l. absurd (let same : i ≡ n = h i n k e in omega arith) | false ↦ λ k l. refl ]) in
+        = λ i b. (elim b as (λ (c : Bool). f i ≡ c → i < n → c ≡ false) [ true ↦ λ k l. absurd (let same : i ≡ n = h i n k e in omega arith) | false ↦ λ k l. refl ]) in
         let none : size n f ≡ 0 = size-none n f (λ i k. outside i (f i) refl k) in
         omega arith
 
@@ -50,7 +50,7 @@ need_part-past : (T : ℕ → ShareSet) (q : ℕ) (w : Wire) (gs : List Gate) (n
 need_part-past T q w [] n v i inner past = ap (λ (b : Bool). b || false) (and_right (q == v) (same_wire (Share i) w) (same_wire-inner w i inner))
 need_part-past T q w (g ∷ gs) n v i inner past =
     ap₂ (λ (b : Bool) (O : ShareSet). b || demand_part (T n) g (inner_probes n ((q, w) ∷ [])) O v i)
-        (need_part-past T q w gs (suc n) v i inner (omega arith)) (λ d j. need_part-past T q w gs (suc n) n j inner (omega arith) d)
+    (need_part-past T q w gs (suc n) v i inner (omega arith)) (λ d j. need_part-past T q w gs (suc n) n j inner (omega arith) d)
     ∙ ap (λ (Q : List Wire). demand_part (T n) g Q (λ j. false) v i) elsewhere
     ∙ demand_part-none (T n) g v i
   where
@@ -64,6 +64,7 @@ need_part-own T q w (g ∷ gs) n i inner are = go (cases_lt q n) (need_part-own 
   where
     O : ShareSet
     O = need_part T ((q, w) ∷ []) gs (suc n) n
+
     go : (q < n) ⊎ (n ≤ q) → need_part T ((q, w) ∷ []) gs (suc n) q i ≡ false → need_part T ((q, w) ∷ []) (g ∷ gs) n q i ≡ false
     go (inl past) none = need_part-past T q w (g ∷ gs) n q i inner past
     go (inr later) none = ap₂ (λ (a b : Bool). a || b) none (false_from_ne_true (demand_part (T n) g (inner_probes n ((q, w) ∷ [])) O q i)
@@ -79,8 +80,8 @@ one_at_source c T N p confined gs n at are s source = go (is_inner_at s p) refl
         let both = and_parts (p.0 == s) (not (is_share p.1)) e in
         let here : p.0 ≡ s = eqb-true p.0 s both.0 in
         let none : size N (need_part T (p ∷ []) gs n s) ≡ 0
-                = size-none N (need_part T (p ∷ []) gs n s)
-                    (λ i k. subst (λ (v : ℕ). need_part T (p ∷ []) gs n v i ≡ false) here (need_part-own T p.0 p.1 gs n i (not-true (is_share p.1) both.1) are)) in
+        = size-none N (need_part T (p ∷ []) gs n s)
+        (λ i k. subst (λ (v : ℕ). need_part T (p ∷ []) gs n v i ≡ false) here (need_part-own T p.0 p.1 gs n i (not-true (is_share p.1) both.1) are)) in
         omega arith
     go false e = let one = size-at_most_one N (need_part T (p ∷ []) gs n s) (at_most_one c T p confined gs n at s source) in omega arith
 
@@ -93,9 +94,9 @@ all_at_source c T N confined (p ∷ L) gs n at are s source =
     let first = one_at_source c T N p (confined p) gs n at are s source in
     let others = all_at_source c T N confined L gs n at are s source in
     let inner : length (inner_probes s (p ∷ L)) ≡ length (inner_probes s (p ∷ [])) + length (inner_probes s L)
-            = ap length (inner_probes-append s (p ∷ []) L) ∙ length-append (inner_probes s (p ∷ [])) (inner_probes s L) in
+    = ap length (inner_probes-append s (p ∷ []) L) ∙ length-append (inner_probes s (p ∷ [])) (inner_probes s L) in
     let union : size N (need_part T (p ∷ L) gs n s) ≤ size N (λ i. need_part T (p ∷ []) gs n s i || need_part T L gs n s i)
-            = size-mono N _ _ (λ i k d. sym (need_part-append T (p ∷ []) L gs n s i) ∙ d) in
+    = size-mono N _ _ (λ i k d. sym (need_part-append T (p ∷ []) L gs n s i) ∙ d) in
     let small = size-or N (need_part T (p ∷ []) gs n s) (need_part T L gs n s) in
     omega arith
 

@@ -71,17 +71,20 @@ has_partner n wire Q test O i owner own fits demanded = go (partner n wire Q (λ
   where
     kept : ℕ → Bool
     kept k = list_any (λ w. test k w || same_wire (wire_between wire i k) w) Q
+
     one_reason : (same touched demanded' probed : Bool) → (same ≡ true → demanded' ≡ true) → (not same && not touched && not demanded' && not probed) ≡ false → (demanded' || (touched || probed)) ≡ true
     one_reason same touched true probed h e = refl
     one_reason same true false probed h e = refl
     one_reason same false false true h e = refl
     one_reason true false false false h e = h refl
     one_reason false false false false h e = cc
+
     all_kept : partner n wire Q (λ j. list_any (test j) Q) O i ≡ None → (k : ℕ) → k < n → (O k || kept k) ≡ true
     all_kept none k lt =
         rw (← (list_any-or (test k) (same_wire (wire_between wire i k)) Q))
         (one_reason (k == i) (list_any (test k) Q) (O k) (is_probed Q (wire_between wire i k)) (λ e. rw (eqb-true k i e) demanded)
         (least-None (λ j. not (j == i) && not (list_any (test j) Q) && not (O j) && not (is_probed Q (wire_between wire i j))) n none k lt))
+
     go : (o : Option ℕ) → partner n wire Q (λ j. list_any (test j) Q) O i ≡ o → (k : ℕ) × (partner n wire Q (λ j. list_any (test j) Q) O i ≡ Some k)
     go (Some k) found = (k, found)
     go None none =

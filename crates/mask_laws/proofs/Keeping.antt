@@ -41,8 +41,8 @@ keeps_at keeps N (Not u) Q O s s' r two inner fits agree long w watched = refl
 keeps_at keeps N (Xor u v) Q O s s' r two inner fits agree long (Share i) watched =
     let h = watched_share N (Xor u v) Q O i inner watched in
     ap₂ xor
-        (agree u i h.0 (and_from (u == u || u == v) (O i) (or_left (u == u) (u == v) (eq-eqb u u refl)) h.1))
-        (agree v i h.0 (and_from (v == u || v == v) (O i) (or_right (v == u) (v == v) (eq-eqb v v refl)) h.1))
+    (agree u i h.0 (and_from (u == u || u == v) (O i) (or_left (u == u) (u == v) (eq-eqb u u refl)) h.1))
+    (agree v i h.0 (and_from (v == u || v == v) (O i) (or_right (v == u) (v == v) (eq-eqb v v refl)) h.1))
 keeps_at keeps N (Xor u v) Q O s s' r two inner fits agree long w watched = refl
 
 demand-below : (n : ℕ) (g : Gate) (Q : List Wire) (O : ShareSet) (v i : ℕ) → OperandsBelow n g → demand g Q O v i ≡ true → v < n
@@ -74,10 +74,13 @@ traces_step keeps N P g gs n t t' old two below named fits long agree = record {
   where
     Q : List Wire
     Q = inner_probes n P
+
     O : ShareSet
     O = need_from P gs (suc n) n
+
     before : AgreeBefore N g Q O (shares_of t) (shares_of t')
     before v i k d = agree.shares v i (demand-below n g Q O v i below d) k (or_right (need_from P gs (suc n) v i) _ d)
+
     kept : (w : Wire) → IsWatched N Q O w → gate_wire bits N g (shares_of t) old w ≡ gate_wire bits N g (shares_of t') (add_bits old (mask_at P N g gs n t t')) w
     kept w watched = keeps_at keeps N g Q O (shares_of t) (shares_of t') old two
         (All-inner_probes (λ w. Contains (gate_names N g) w) n P named) fits before long w watched
@@ -96,15 +99,15 @@ keeps_from keeps N P (g ∷ gs) n t t' r two are named fits long agree =
     let parts = front_of_tape N g gs r long in
     let fits_new : length new ≡ w = length-add_bits old m ∙ parts.0 in
     let same : run bits N (g ∷ gs) n t' (new ++ rest) ≡ run bits N gs (suc n) (trace_at N g n t' new) rest
-            = ap₂ (λ (a b : List Bool). run bits N gs (suc n) (trace_at N g n t' a) b) (take_front w new rest fits_new) (drop_front w new rest fits_new) in
+    = ap₂ (λ (a b : List Bool). run bits N gs (suc n) (trace_at N g n t' a) b) (take_front w new rest fits_new) (drop_front w new rest fits_new) in
     let ih = keeps_from keeps N P gs (suc n) (trace_at N g n t old) (trace_at N g n t' new) (drop w r) two are.1 named.1 fits.1 parts.1
-            (traces_step keeps N P g gs n t t' old two are.0 named.0 fits.0 parts.0 agree) in
+    (traces_step keeps N P g gs n t t' old two are.0 named.0 fits.0 parts.0 agree) in
     record {
       shares = λ v i h k d. ⊎_elim
           (λ e. ih.shares v i (omega arith) k e ∙ ap (λ (T : Trace Bool). T v (Share i)) (sym same))
           (λ e.
-              let below : v < n = demand-below n g (inner_probes n P) (need_from P gs (suc n) n) v i are.0 e in
-              run-earlier bits N (g ∷ gs) n t r v (Share i) below ∙ agree.shares v i below k d ∙ sym (run-earlier bits N (g ∷ gs) n t' (new ++ rest) v (Share i) below))
+          let below : v < n = demand-below n g (inner_probes n P) (need_from P gs (suc n) n) v i are.0 e in
+          run-earlier bits N (g ∷ gs) n t r v (Share i) below ∙ agree.shares v i below k d ∙ sym (run-earlier bits N (g ∷ gs) n t' (new ++ rest) v (Share i) below))
           (or_cases (need_from P gs (suc n) v i) _ d);
       inner = λ v w h k no. ih.inner v w (omega arith) k no ∙ ap (λ (T : Trace Bool). T v w) (sym same);
     }

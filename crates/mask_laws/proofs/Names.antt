@@ -61,7 +61,7 @@ row_wire-is P n i k hi hk ne last inner = go (is_last n i k) refl
 has_last : (n i : ℕ) → 2 ≤ n → i < n → (k : ℕ) × (k < n) × (i ≢ k) × (is_last n i k ≡ true)
 has_last n i two hi =
     elim (cases_eq (suc i) n) [
-      inl e ↦ (pred (pred n), omega arith, omega arith, or_right (suc (pred (pred n)) == n) _ (and_from _ _ (eq-eqb (suc i) n e) (eq-eqb _ _ (omega arith))))
+      | inl e ↦ (pred (pred n), omega arith, omega arith, or_right (suc (pred (pred n)) == n) _ (and_from _ _ (eq-eqb (suc i) n e) (eq-eqb _ _ (omega arith))))
       | inr ne ↦ (pred n, omega arith, omega arith, or_left _ _ (eq-eqb (suc (pred n)) n (omega arith)))
     ]
 
@@ -119,8 +119,8 @@ product_forward : (n : ℕ) (w : Wire) → Contains (product_names n) w → IsPr
 unfolding products of_pair rows
 product_forward n w h =
     elim (Contains-append_cases (products n ++ flat_map of_pair (pairs n)) (rows n) w h) [
-      inl front ↦ elim (Contains-append_cases (products n) (flat_map of_pair (pairs n)) w front) [
-        inl in_products ↦ products_forward n w in_products
+      | inl front ↦ elim (Contains-append_cases (products n) (flat_map of_pair (pairs n)) w front) [
+        | inl in_products ↦ products_forward n w in_products
         | inr in_pairs ↦ pair_wires_forward n w in_pairs
       ]
       | inr in_rows ↦ rows_forward n w in_rows
@@ -186,7 +186,7 @@ update_of : (n i k : ℕ) → i < n → k < n → i ≢ k → Contains (refresh_
 unfolding updates
 update_of n i k hi hk ne =
     elim (cases_lt i k) [
-      inl l ↦ update_at n i k (row_wire n i k) (l, hk) (second_of_three (Fresh i k) (row_wire n i k) (row_wire n k i))
+      | inl l ↦ update_at n i k (row_wire n i k) (l, hk) (second_of_three (Fresh i k) (row_wire n i k) (row_wire n k i))
       | inr g ↦ update_at n k i (row_wire n i k) (omega arith, hi) (third_of_three (Fresh k i) (row_wire n k i) (row_wire n i k))
     ]
 

@@ -34,6 +34,7 @@ Contains-inner_probes n (p ∷ P) w k inner = go (is_inner_at n p) refl (Contain
   where
     passes : p ≡ (n, w) → is_inner_at n p ≡ true
     passes e = ap (is_inner_at n) e ∙ and_from (n == n) (not (is_share w)) (eq-eqb n n refl) (ap not inner)
+
     go : (b : Bool) → is_inner_at n p ≡ b → (p ≡ (n, w)) ⊎ Contains P (n, w) → (Contains P (n, w) → Contains (inner_probes n P) w) →
         Contains (cons_option (cond b (Some p.1) None) (inner_probes n P)) w
     go true e (inl same) ih = subst (λ (q : Place). Contains (p.1 ∷ inner_probes n P) q.1) same (Contains-first p.1 (inner_probes n P))

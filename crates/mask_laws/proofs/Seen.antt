@@ -39,7 +39,7 @@ pub traces_agree : GateKeeps → (c : Netlist) (N : ℕ) (P : List Place) (x y :
     TracesAgree N P c.gates c.inputs (value_count c) (expand bits c N x r) (expand bits c N y (shift_by c N x y P r))
 traces_agree keeps c N P x y r two are named fits agree long =
     keeps_from keeps N P c.gates c.inputs (start bits x) (start bits y) r two are (AreNamed-from_names c N P two named) fits long
-        (record { shares = agree; inner = λ v w h k e. start-inner x y v w e })
+    (record { shares = agree; inner = λ v w h k e. start-inner x y v w e })
 
 -- where traces agree on these, each probe carries the same
 probe-same : (c : Netlist) (N : ℕ) (P : List Place) (t t' : Trace Bool) → 2 ≤ N → All (Contains (names c N)) P → TracesAgree N P c.gates c.inputs (value_count c) t t' →
@@ -60,8 +60,8 @@ pub seen_by-shift_by : GateKeeps → (c : Netlist) (N : ℕ) (P : List Place) (x
     seen_by c N x r P ≡ seen_by c N y (shift_by c N x y P r) P
 seen_by-shift_by keeps c N P x y r two are named fits agree long =
     map-same (λ p. expand bits c N x r p.0 p.1) (λ p. expand bits c N y (shift_by c N x y P r) p.0 p.1) P
-        (λ p k. probe-same c N P (expand bits c N x r) (expand bits c N y (shift_by c N x y P r)) two named
-            (traces_agree keeps c N P x y r two are named fits agree long) p.0 p.1 k)
+    (λ p k. probe-same c N P (expand bits c N x r) (expand bits c N y (shift_by c N x y P r)) two named
+    (traces_agree keeps c N P x y r two are named fits agree long) p.0 p.1 k)
 
 -- and over all tapes any number of what they see has the same sum
 pub sum_over_tapes-seen_by : GateKeeps → (c : Netlist) (N : ℕ) (P : List Place) (x y : ℕ → Shares Bool) → 2 ≤ N → AreGates c.inputs c.gates →
@@ -83,15 +83,15 @@ pub seen-probes_at : (c : Netlist) (N : ℕ) (x : ℕ → Shares Bool) (r : List
 seen-probes_at c N x r [] all = refl
 seen-probes_at c N x r (p ∷ P) all =
     ap₂ (λ (b : Bool) (bs : List Bool). b ∷ bs)
-        (slice_index_or-map (λ q. expand bits c N x r q.0 q.1) (names c N) p (0, Share 0) false (All-head (λ p. p < wire_count c N) p P all))
-        (seen-probes_at c N x r P (All-tail (λ p. p < wire_count c N) p P all))
+    (slice_index_or-map (λ q. expand bits c N x r q.0 q.1) (names c N) p (0, Share 0) false (All-head (λ p. p < wire_count c N) p P all))
+    (seen-probes_at c N x r P (All-tail (λ p. p < wire_count c N) p P all))
 
 -- the names of places are names of the circuit
 pub All-probes_at : (c : Netlist) (N : ℕ) (P : List ℕ) → All (λ p. p < wire_count c N) P → All (Contains (names c N)) (probes_at c N P)
 All-probes_at c N P all =
     All-map (Contains (names c N)) (λ p. slice_index_or (names c N) p (0, Share 0)) P
-        (All-weaker (λ p. p < wire_count c N) (λ p. Contains (names c N) (slice_index_or (names c N) p (0, Share 0)))
-            (λ p h. Contains-get_or (names c N) p (0, Share 0) h) P all)
+    (All-weaker (λ p. p < wire_count c N) (λ p. Contains (names c N) (slice_index_or (names c N) p (0, Share 0)))
+    (λ p h. Contains-get_or (names c N) p (0, Share 0) h) P all)
 
 pub shift_returns : MaskIsSymmetric → ShiftReturns
 shift_returns symmetric c N x y P r long = (
@@ -104,11 +104,10 @@ shift_reorders c N x y P f = sum_over_tapes-shift_from (probes_at c N P) N c.gat
 
 pub shift_keeps : GateKeeps → ShiftKeeps
 shift_keeps keeps c N x y P r two are places fits agree long =
-    let named = All-probes_at c N P places in
-    (
+    let named = All-probes_at c N P places in (
       seen-probes_at c N y (shift c N x y P r) P places
-      ∙ sym (seen_by-shift_by keeps c N (probes_at c N P) x y r two are named fits agree long)
-      ∙ sym (seen-probes_at c N x r P places),
+          ∙ sym (seen_by-shift_by keeps c N (probes_at c N P) x y r two are named fits agree long)
+          ∙ sym (seen-probes_at c N x r P places),
       λ v i h k d. sym ((traces_agree keeps c N (probes_at c N P) x y r two are named fits agree long).shares v i h k d),
     )
 

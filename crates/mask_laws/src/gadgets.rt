@@ -8,19 +8,16 @@ ghost use Rattle.mask_laws.specs.Needs.{NeedsAreSmall};
 /// other gate has its output shares alone.
 pub fn gates_have_names()
     ensures { GateHasNames }
-{
-}
+{}
 
 /// The local number of each wire of a gate: its place in the gate's list of names. With `w = n · (n - 1) / 2` pairs of
 /// `n` shares, a product has `n² + 3w + n(n - 1)` wires and a refresh `3w`.
 pub fn names_stand_in_order()
     ensures { AllNamesInOrder }
-{
-}
+{}
 
 /// Inner probes on a product demand no more shares of either operand than there are probes, and those on a refresh no
 /// more shares of its operand: each probe adds one share at most.
 pub fn probes_demand_few_shares()
     ensures { NeedsAreSmall }
-{
-}
+{}
