@@ -5,6 +5,7 @@ pub mod Demands
 pub mod Fitting
 pub mod Flips
 pub mod FreshBits
+pub mod Gates
 pub mod Keeping
 pub mod LocalNumbers
 pub mod Members
@@ -12,10 +13,13 @@ pub mod Names
 pub mod Needs
 pub mod Places
 pub mod Probes
+pub mod Products
+pub mod Refreshes
 pub mod Seen
 pub mod Sets
 pub mod Shifts
 pub mod Simulation
 pub mod Sums
+pub mod Symmetry
 pub mod Tapes
 pub mod Traces

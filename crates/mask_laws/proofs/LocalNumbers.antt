@@ -36,7 +36,7 @@ pair_at n i j is =
     let m : ℕ = j - suc i in
     let second : suc i + m ≡ j = omega (arith, is.0) in
     let in_row : slice_get (row_pairs n i) m ≡ Some (i, j) =
-    subst (λ (k : ℕ). slice_get (row_pairs n i) m ≡ Some (i, k)) second (slice_get-each {A = Pair} (λ (k : ℕ). (i, suc i + k)) (n - suc i) m (omega (arith, is.0, is.1))) in
+        subst (λ (k : ℕ). slice_get (row_pairs n i) m ≡ Some (i, k)) second (slice_get-each {A = Pair} (λ (k : ℕ). (i, suc i + k)) (n - suc i) m (omega (arith, is.0, is.1))) in
     rw (← (length-rows_before n i)) (slice_get-joined (row_pairs n) n i m (i, j) (omega (arith, is.0, is.1)) in_row)
 
 pub pairs_in_order : (n : ℕ) → PairsInOrder n
@@ -92,7 +92,7 @@ product_row_at : (n i m : ℕ) → i < n → m < n - 1 → slice_get (product_na
 unfolding products of_pair rows
 product_row_at n i m hi hm =
     let front : length (products n ++ flat_map of_pair (pairs n)) ≡ n * n + 3 * pair_count n =
-    omega (arith, length-append (products n) (flat_map of_pair (pairs n)), length-products n, length-pair_wires n) in
+        omega (arith, length-append (products n) (flat_map of_pair (pairs n)), length-products n, length-pair_wires n) in
     back_at (products n ++ flat_map of_pair (pairs n)) (rows n) (i * (n - 1) + m) _ _ (rw front (omega arith)) (row_at n i m hi hm)
 
 length-product_names : (n : ℕ) → length (product_names n) ≡ n * n + 3 * pair_count n + n * (n - 1)

@@ -90,9 +90,9 @@ Contains-flat_map f (q ∷ ps) p x h g = go (λ k. Contains-flat_map f ps p x k 
 pub holds_of_three : {A : Type 0} (P : A → Type 0) (a b c x : A) → P a → P b → P c → Contains (a ∷ b ∷ c ∷ []) x → P x
 holds_of_three P a b c x pa pb pc h =
     elim (Contains-cons_cases a (b ∷ c ∷ []) x h) [
-      | inl e ↦ subst P e pa
+      inl e ↦ subst P e pa
       | inr h' ↦ elim (Contains-cons_cases b (c ∷ []) x h') [
-        | inl e ↦ subst P e pb
+        inl e ↦ subst P e pb
         | inr h'' ↦ elim (Contains-cons_cases c [] x h'') [ inl e ↦ subst P e pc | inr z ↦ absurd (none_in_nil x z) ]
       ]
     ]

@@ -13,7 +13,7 @@ either : {P : Type 0} (x y : Bool) → (x ≡ true → P) → (y ≡ true → P)
 either x y f g h = elim (or_cases x y h) [ inl e ↦ f e | inr e ↦ g e ]
 
 -- the row that a wire of a product belongs to, if there is one
-pub row_of : Wire → ℕ
+unfoldable pub row_of : Wire → ℕ
 row_of (Share k) = 0
 row_of (Product k l) = k
 row_of (Fresh k l) = k
@@ -82,7 +82,7 @@ size-left_need N Q =
 size-right_need : (N : ℕ) (Q : List Wire) → size N (right_need Q) ≤ length Q
 size-right_need N Q =
     let one_test = size-mono N (right_need Q) (λ i. list_any (λ w. is_of_row i w || demands_right (product_rows Q) i w) Q)
-    (λ i lt h. rw (← (list_any-or (is_of_row i) (demands_right (product_rows Q) i) Q)) h) in
+            (λ i lt h. rw (← (list_any-or (is_of_row i) (demands_right (product_rows Q) i) Q)) h) in
     let few = size-owned N (λ i w. is_of_row i w || demands_right (product_rows Q) i w) (right_of (product_rows Q)) Q (right_owner (product_rows Q)) in omega arith
 
 pub needs_are_small : NeedsAreSmall

@@ -45,7 +45,6 @@ size-one (suc n) o a only = go (size-one n o a only) (a n) refl
   where
     none_below : a n ≡ true → (i : ℕ) → i < n → a i ≡ false
     none_below at i lt = false_from_ne_true (a i) (λ h. let here = only i h in let there = only n at in omega arith)
-
     go : size n a ≤ 1 → (b : Bool) → a n ≡ b → size n a + cond (a n) 1 0 ≤ 1
     go up true at = let none = size-none n a (none_below at) in rw at (omega arith)
     go up false at = rw at (omega arith)
