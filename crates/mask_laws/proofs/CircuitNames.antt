@@ -1,10 +1,10 @@
 -- The names of a circuit's wires.
-use Rattle.std.proofs.Common.{◌≡◌, ℕ, zero, suc, pred, ◌+◌, ◌-◌, ◌<◌, ◌≤◌, Bool, true, false, cond, ◌⊎◌, inl, inr, List, [], ◌∷◌, ◌++◌, length, map, All, Contains, flat_map, refl, ap, sym, subst, ◌∙◌, arith, ⊎_elim, le_refl, eq-or-lt_of_le}
-use Rattle.std.proofs.lemmas.List.Elements.{All-nil, All-cons, All-head, All-tail, All-append, All-map, All-weaker, All-contains, All-contains_itself, Contains-append_cases}
+use Rattle.std.proofs.Common.{◌≡◌, ℕ, zero, suc, ◌+◌, ◌<◌, ◌≤◌, ◌⊎◌, inl, inr, List, [], ◌∷◌, length, map, All, Contains, refl, arith, ⊎_elim, le_refl}
+use Rattle.std.proofs.lemmas.List.Elements.{All-nil, All-cons, All-append, All-map, All-weaker, All-contains, All-contains_itself, Contains-append_cases}
 use Rattle.mask_circuit.specs.declared.gates.Gate.{Gate}
 use Rattle.mask_circuit.specs.declared.gates.Gate.TheVariants.{Zero, One, Xor, Not, And, Ref}
 use Rattle.mask_circuit.specs.Netlist.{Netlist}
-use Rattle.mask_circuit.specs.Wires.{Wire, Share, Product, Fresh, Left, Right, Partial, Pair, each, joined, other, is_last, row_pairs, pairs, row_wire, share_names, product_names, refresh_names, gate_names}
+use Rattle.mask_circuit.specs.Wires.{Wire, Share, Product, Fresh, Left, Right, Partial, each, joined, gate_names}
 use Rattle.mask_circuit.specs.Expansion.{Place, names, names_from}
 use Rattle.mask_laws.specs.Names.{IsGateName}
 use Rattle.mask_laws.proofs.Names.{gate_names-by_shape}

@@ -2,17 +2,17 @@
 --
 -- What a probe demands of its gate's operands is one share of each; from there demands go down through xor and not
 -- alone, to values that reach fewer sources. The operands of a product reach no source in common.
-use Rattle.std.proofs.Common.{◌≡◌, ℕ, zero, suc, ◌+◌, ◌-◌, ◌<◌, ◌≤◌, Bool, true, false, cond, not, ◌&&◌, ◌||◌, ◌==◌, nat_lt, ◌⊎◌, inl, inr, ⊎_elim, List, [], ◌∷◌, length, slice_get, Option, Some, None, refl, ap, sym, subst, ◌∙◌, arith, le-ltb, eqb-true, ne_eqb, add-zero}
+use Rattle.std.proofs.Common.{◌≡◌, ℕ, suc, ◌+◌, ◌-◌, ◌<◌, Bool, true, false, cond, not, ◌&&◌, ◌||◌, ◌==◌, nat_lt, ◌⊎◌, inl, inr, ⊎_elim, List, [], ◌∷◌, length, slice_get, Option, Some, None, refl, ap, sym, subst, ◌∙◌, arith, le-ltb, eqb-true, add-zero}
 use Rattle.std.specs.List.{cons_option, list_any}
-use Rattle.std.proofs.lemmas.Bool.{and_parts, or_cases, false≢true, eqb-false}
+use Rattle.std.proofs.lemmas.Bool.{and_parts, or_cases, false≢true}
 use Rattle.mask_circuit.specs.declared.gates.Gate.{Gate}
 use Rattle.mask_circuit.specs.declared.gates.Gate.TheVariants.{Zero, One, Xor, Not, And, Ref}
 use Rattle.mask_circuit.specs.Netlist.{Netlist}
-use Rattle.mask_circuit.specs.Wires.{Wire, Share, Product, Fresh, Left, Right, Partial}
+use Rattle.mask_circuit.specs.Wires.{Wire, Share}
 use Rattle.mask_circuit.specs.Expansion.{Place}
 use Rattle.mask_circuit.specs.Probing.{same_wire}
-use Rattle.mask_circuit.specs.Need.{ShareSet, is_share, inner_probes, probed_shares, is_of_row, product_rows, demands_left, demands_right, left_need, is_update_of, refresh_need}
-use Rattle.mask_circuit.specs.Acceptance.{gate_at, Reaches, FromLeft, FromRight, FromNegated, IsShared, IsAccepted}
+use Rattle.mask_circuit.specs.Need.{ShareSet, is_share, inner_probes, probed_shares, is_of_row, demands_left, demands_right, left_need, is_update_of, refresh_need}
+use Rattle.mask_circuit.specs.Acceptance.{gate_at, Reaches, FromLeft, FromRight, FromNegated, IsAccepted}
 use Rattle.mask_laws.proofs.Sets.{list_any-or}
 use Rattle.mask_laws.proofs.Needs.{row_of, left_owner, right_of, right_owner, update_is}
 use Rattle.mask_laws.proofs.Demands.{right_part, demand_part, need_part}

@@ -1,7 +1,7 @@
 -- The demands of a list of probes are those of its parts.
 --
 -- Which row of a product is touched is a matter of all probes, T below; apart from that each probe demands by itself.
-use Rattle.std.proofs.Common.{◌≡◌, ℕ, zero, suc, ◌+◌, ◌<◌, ◌≤◌, Bool, true, false, ◌&&◌, ◌||◌, ◌==◌, List, [], ◌∷◌, ◌++◌, refl, ap, ap₂, sym, subst, ◌∙◌, ⊎_elim, eqb-true}
+use Rattle.std.proofs.Common.{◌≡◌, ℕ, suc, ◌<◌, Bool, true, false, ◌&&◌, ◌||◌, ◌==◌, List, [], ◌∷◌, ◌++◌, refl, ap, ap₂, sym, subst, ◌∙◌, ⊎_elim, eqb-true}
 use Rattle.std.specs.List.{list_any}
 use Rattle.std.proofs.lemmas.Bool.{and_parts, or_cases, false≢true}
 use Rattle.std.proofs.lemmas.List.Elements.{filter_map-append}
@@ -12,7 +12,7 @@ use Rattle.mask_circuit.specs.Netlist.{OperandsBelow}
 use Rattle.mask_circuit.specs.Wires.{Wire, Share}
 use Rattle.mask_circuit.specs.Expansion.{Place}
 use Rattle.mask_circuit.specs.Probing.{ShareSets, same_wire}
-use Rattle.mask_circuit.specs.Need.{ShareSet, inner_probes, probed_shares, is_of_row, product_rows, demands_left, demands_right, left_need, right_need, is_update_of, refresh_need, demand, need_from}
+use Rattle.mask_circuit.specs.Need.{ShareSet, inner_probes, probed_shares, is_of_row, product_rows, demands_left, demands_right, left_need, is_update_of, refresh_need, demand, need_from}
 
 -- the shares of a product's second operand that the probes Q demand, where the rows T are touched
 abbrev pub right_part : ShareSet → List Wire → ShareSet

@@ -1,17 +1,17 @@
 -- The shift of a tape keeps what the probes see.
-use Rattle.std.proofs.Common.{◌≡◌, ℕ, zero, suc, ◌+◌, ◌<◌, ◌≤◌, Bool, true, false, ◌&&◌, ◌||◌, ◌==◌, ◌⊎◌, inl, inr, List, [], ◌∷◌, ◌++◌, length, take, drop, All, Contains, refl, ap, ap₂, sym, subst, ◌∙◌, arith, eq-eqb, eqb-true, cond, ⊎_elim, add-zero}
-use Rattle.std.proofs.lemmas.Bool.{and_parts, and_from, or_cases, or_left, or_right, false≢true}
+use Rattle.std.proofs.Common.{◌≡◌, ℕ, suc, ◌+◌, ◌<◌, ◌≤◌, Bool, true, false, ◌||◌, ◌==◌, inl, inr, List, [], ◌∷◌, ◌++◌, length, take, drop, Contains, refl, ap, ap₂, sym, subst, ◌∙◌, arith, eq-eqb, cond, ⊎_elim, add-zero}
+use Rattle.std.proofs.lemmas.Bool.{and_from, or_cases, or_left, or_right, false≢true}
 use Rattle.std.proofs.lemmas.List.Elements.{All-contains}
 use Rattle.mask_circuit.specs.declared.gates.Gate.{Gate}
 use Rattle.mask_circuit.specs.declared.gates.Gate.TheVariants.{Zero, One, Xor, Not, And, Ref}
 use Rattle.mask_circuit.specs.Netlist.{OperandsBelow, AreGates}
 use Rattle.mask_circuit.specs.Value.{xor}
 use Rattle.mask_circuit.specs.Ring.{bits}
-use Rattle.mask_circuit.specs.Wires.{Wire, Share, Product, Fresh, Left, Right, Partial, Shares, gate_names, gate_draws, gate_wire}
-use Rattle.mask_circuit.specs.Expansion.{Place, Trace, shares_of, put, run}
+use Rattle.mask_circuit.specs.Wires.{Wire, Share, Shares, gate_names, gate_draws, gate_wire}
+use Rattle.mask_circuit.specs.Expansion.{Place, Trace, shares_of, run}
 use Rattle.mask_circuit.specs.Need.{ShareSet, is_share, inner_probes, product_rows, demand, need_from}
 use Rattle.mask_circuit.specs.Shift.{add_bits, gate_mask, shift_from}
-use Rattle.mask_laws.specs.Gadgets.{AreInner, FitsGate, AgreeBefore, IsWatched, GateKeeps}
+use Rattle.mask_laws.specs.Gadgets.{AreInner, AgreeBefore, IsWatched, GateKeeps}
 use Rattle.mask_laws.specs.Circuits.{FitsAt, FitsFrom}
 use Rattle.mask_laws.proofs.Demands.{demand-part, demand_part-below}
 use Rattle.mask_laws.proofs.Probes.{All-inner_probes, Contains-inner_probes}

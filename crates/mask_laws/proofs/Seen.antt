@@ -1,14 +1,13 @@
 -- What the probes of a whole circuit see, by names and by places.
-use Rattle.std.proofs.Common.{◌≡◌, ℕ, zero, suc, ◌+◌, ◌<◌, ◌≤◌, Bool, true, false, cond, List, [], ◌∷◌, length, map, All, Contains, slice_index_or, refl, ap, ap₂, sym, subst, ◌∙◌, arith, zero-add}
-use Rattle.std.proofs.lemmas.List.Elements.{All-nil, All-cons, All-head, All-tail, All-contains, Contains-get_or, All-map, All-weaker}
+use Rattle.std.proofs.Common.{◌≡◌, ℕ, zero, suc, ◌<◌, ◌≤◌, Bool, false, cond, List, [], ◌∷◌, length, map, All, Contains, slice_index_or, refl, ap, ap₂, sym, ◌∙◌, arith}
+use Rattle.std.proofs.lemmas.List.Elements.{All-head, All-tail, All-contains, Contains-get_or, All-map, All-weaker}
 use Rattle.std.proofs.lemmas.Bool.{false≢true}
-use Rattle.mask_circuit.specs.declared.gates.Gate.{Gate}
 use Rattle.mask_circuit.specs.Netlist.{Netlist, AreGates, value_count}
 use Rattle.mask_circuit.specs.Ring.{bits}
-use Rattle.mask_circuit.specs.Wires.{Wire, Share, Product, Fresh, Left, Right, Partial, Shares}
-use Rattle.mask_circuit.specs.Expansion.{Place, Trace, start, expand, draws, names, wire_count, wires}
-use Rattle.mask_circuit.specs.Probing.{seen, hits, sum_over_tapes, same_bits, ShareSets, AgreeOn, IsSimulated}
-use Rattle.mask_circuit.specs.Need.{is_share, need, need_from, probes_at}
+use Rattle.mask_circuit.specs.Wires.{Wire, Share, Shares}
+use Rattle.mask_circuit.specs.Expansion.{Place, Trace, start, expand, draws, names, wire_count}
+use Rattle.mask_circuit.specs.Probing.{seen, sum_over_tapes, same_bits, AgreeOn}
+use Rattle.mask_circuit.specs.Need.{is_share, need_from, probes_at}
 use Rattle.mask_circuit.specs.Shift.{shift, shift_from}
 use Rattle.mask_laws.specs.Gadgets.{GateKeeps, MaskIsSymmetric}
 use Rattle.mask_laws.specs.Circuits.{Fits, FittingIsSimulated, ShiftKeeps, ShiftReorders, ShiftReturns}
@@ -17,7 +16,7 @@ use Rattle.mask_laws.proofs.Probes.{probed_shares-from_Contains, need_from-probe
 use Rattle.mask_laws.proofs.Members.{Contains-first, Contains-later}
 use Rattle.mask_laws.proofs.Shifts.{sum_over_tapes-shift_from, length-shift_from, shift_from-back}
 use Rattle.mask_laws.proofs.Keeping.{TracesAgree, keeps_from}
-use Rattle.mask_laws.proofs.CircuitNames.{IsShareBelow, IsNamedFrom, names-within, AreNamed-from_names}
+use Rattle.mask_laws.proofs.CircuitNames.{IsNamedFrom, names-within, AreNamed-from_names}
 
 -- the shift by the names of probes
 abbrev pub shift_by : Netlist → ℕ → (ℕ → Shares Bool) → (ℕ → Shares Bool) → List Place → List Bool → List Bool

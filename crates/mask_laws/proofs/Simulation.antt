@@ -1,14 +1,12 @@
 -- From the shift to non-interference.
-use Rattle.std.proofs.Common.{◌≡◌, ℕ, ◌+◌, ◌<◌, ◌≤◌, List, length, map, sym, subst, arith, All}
+use Rattle.std.proofs.Common.{◌≡◌, ℕ, List, length, arith}
 use Rattle.std.proofs.lemmas.List.{length-map}
 use Rattle.mask_circuit.specs.Netlist.{Netlist, AreGates}
-use Rattle.mask_circuit.specs.Wires.{Share}
-use Rattle.mask_circuit.specs.Expansion.{Place, names}
-use Rattle.mask_circuit.specs.Probing.{HasAtMost, size}
-use Rattle.mask_circuit.specs.Need.{inner_probes, need, probes_at}
-use Rattle.mask_circuit.specs.Acceptance.{Input, IsAccepted, Reaches}
-use Rattle.mask_laws.specs.Gadgets.{GateKeeps, MaskIsSymmetric}
-use Rattle.mask_laws.specs.Circuits.{AcceptedFits, AcceptedIsNI, AcceptedIsSimulated, AcceptedNeedsFew, FittingIsSimulated, Fits}
+use Rattle.mask_circuit.specs.Probing.{HasAtMost}
+use Rattle.mask_circuit.specs.Need.{need, probes_at}
+use Rattle.mask_circuit.specs.Acceptance.{Input, IsAccepted}
+use Rattle.mask_laws.specs.Gadgets.{GateKeeps}
+use Rattle.mask_laws.specs.Circuits.{AcceptedFits, AcceptedIsNI, AcceptedIsSimulated, AcceptedNeedsFew}
 use Rattle.mask_laws.proofs.Confining.{AreGatesAt-all}
 use Rattle.mask_laws.proofs.Fitting.{FitsFrom-accepted, source_count}
 use Rattle.mask_laws.proofs.Seen.{fitting_is_simulated}
