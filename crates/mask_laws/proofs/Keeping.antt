@@ -21,7 +21,9 @@ use Rattle.mask_laws.proofs.Shifts.{draws_from, mask_at, trace_at, front_of_tape
 
 -- a gate that acts share by share: where a share is watched it is demanded
 watched_share : (N : ℕ) (g : Gate) (Q : List Wire) (O : ShareSet) (i : ℕ) → AreInner N g Q → IsWatched N Q O (Share i) → (i < N) × (O i ≡ true)
-watched_share N g Q O i inner (inl probed) = absurd (let no = All-contains (λ w. Contains (gate_names N g) w × (is_share w ≡ false)) Q (Share i) inner probed in false≢true (sym no.1))
+watched_share N g Q O i inner (inl probed) =
+    let never = All-contains (λ w. Contains (gate_names N g) w × (is_share w ≡ false)) Q (Share i) inner probed in
+    absurd (false≢true (sym never.1))
 watched_share N g Q O i inner (inr (j, below, demanded, e)) =
     let same : j ≡ i = cc in (subst (λ (k : ℕ). k < N) same below, subst (λ (k : ℕ). O k ≡ true) same demanded)
 
@@ -45,6 +47,7 @@ keeps_at keeps N (Xor u v) Q O s s' r two inner fits agree long (Share i) watche
     (agree v i h.0 (and_from (v == u || v == v) (O i) (or_right (v == u) (v == v) (eq-eqb v v refl)) h.1))
 keeps_at keeps N (Xor u v) Q O s s' r two inner fits agree long w watched = refl
 
+-- a gate demands shares of its operands alone
 demand-below : (n : ℕ) (g : Gate) (Q : List Wire) (O : ShareSet) (v i : ℕ) → OperandsBelow n g → demand g Q O v i ≡ true → v < n
 demand-below n g Q O v i below d = demand_part-below (product_rows Q) n g Q O v i below (sym (demand-part g Q O v i) ∙ d)
 
@@ -64,14 +67,20 @@ traces_step : GateKeeps → (N : ℕ) (P : List Place) (g : Gate) (gs : List Gat
     FitsAt N g (inner_probes n P) (need_from P gs (suc n) n) → length old ≡ gate_draws N g → TracesAgree N P (g ∷ gs) n n t t' →
     TracesAgree N P gs (suc n) (suc n) (trace_at N g n t old) (trace_at N g n t' (add_bits old (mask_at P N g gs n t t')))
 traces_step keeps N P g gs n t t' old two below named fits long agree = record {
-  shares = λ v i h k d. put-same n v (Share i) (gate_wire bits N g (shares_of t) old) (gate_wire bits N g (shares_of t') (add_bits old (mask_at P N g gs n t t'))) t t'
+  shares = λ v i h k d. put-same n v (Share i) made made' t t'
       (λ e. kept (Share i) (inr (i, k, subst (λ (u : ℕ). need_from P gs (suc n) u i ≡ true) e d, refl)))
       (λ ne. agree.shares v i (omega arith) k (or_left (need_from P gs (suc n) v i) _ d));
-  inner = λ v w h c no. put-same n v w (gate_wire bits N g (shares_of t) old) (gate_wire bits N g (shares_of t') (add_bits old (mask_at P N g gs n t t'))) t t'
-      (λ e. kept w (inl (Contains-inner_probes n P w (subst (λ (u : ℕ). Contains P (u, w)) e c) no)))
-      (λ ne. agree.inner v w (omega arith) c no);
+  inner = λ v w h c hidden. put-same n v w made made' t t'
+      (λ e. kept w (inl (Contains-inner_probes n P w (subst (λ (u : ℕ). Contains P (u, w)) e c) hidden)))
+      (λ ne. agree.inner v w (omega arith) c hidden);
 }
   where
+    made : Wire → Bool
+    made = gate_wire bits N g (shares_of t) old
+
+    made' : Wire → Bool
+    made' = gate_wire bits N g (shares_of t') (add_bits old (mask_at P N g gs n t t'))
+
     Q : List Wire
     Q = inner_probes n P
 
@@ -81,7 +90,7 @@ traces_step keeps N P g gs n t t' old two below named fits long agree = record {
     before : AgreeBefore N g Q O (shares_of t) (shares_of t')
     before v i k d = agree.shares v i (demand-below n g Q O v i below d) k (or_right (need_from P gs (suc n) v i) _ d)
 
-    kept : (w : Wire) → IsWatched N Q O w → gate_wire bits N g (shares_of t) old w ≡ gate_wire bits N g (shares_of t') (add_bits old (mask_at P N g gs n t t')) w
+    kept : (w : Wire) → IsWatched N Q O w → made w ≡ made' w
     kept w watched = keeps_at keeps N g Q O (shares_of t) (shares_of t') old two
         (All-inner_probes (λ w. Contains (gate_names N g) w) n P named) fits before long w watched
 
@@ -109,5 +118,5 @@ keeps_from keeps N P (g ∷ gs) n t t' r two are named fits long agree =
           let below : v < n = demand-below n g (inner_probes n P) (need_from P gs (suc n) n) v i are.0 e in
           run-earlier bits N (g ∷ gs) n t r v (Share i) below ∙ agree.shares v i below k d ∙ sym (run-earlier bits N (g ∷ gs) n t' (new ++ rest) v (Share i) below))
           (or_cases (need_from P gs (suc n) v i) _ d);
-      inner = λ v w h k no. ih.inner v w (omega arith) k no ∙ ap (λ (T : Trace Bool). T v w) (sym same);
+      inner = λ v w h k hidden. ih.inner v w (omega arith) k hidden ∙ ap (λ (T : Trace Bool). T v w) (sym same);
     }

@@ -3,6 +3,7 @@ pub mod CircuitNames
 pub mod Confining
 pub mod Demands
 pub mod Fitting
+pub mod FittingExamples
 pub mod Flips
 pub mod FreshBits
 pub mod Gates
