@@ -1,5 +1,5 @@
 -- The sum of two bits, and what a test says.
-use Rattle.std.proofs.Common.{◌≡◌, Bool, true, false, not, ◌&&◌, refl, sym, ap, ◌∙◌}
+use Rattle.std.proofs.Common.{◌≡◌, Bool, true, false, ◌&&◌, refl, sym, ap, ◌∙◌}
 use Rattle.mask_circuit.specs.Value.{xor}
 
 pub xor-false : (a : Bool) → xor a false ≡ a

@@ -1,14 +1,13 @@
 -- Flips: each demanded row that would change has a partner, and the flip of their bit touches nothing that is watched.
-use Rattle.std.proofs.Common.{◌≡◌, ◌≢◌, ℕ, zero, suc, ◌+◌, ◌<◌, ◌≤◌, ◌⊎◌, inl, inr, Bool, true, false, cond, not, ◌&&◌, ◌||◌, ◌==◌, nat_lt, List, [], ◌∷◌, length, Some, None, Option, refl, sym, ap, ◌∙◌, subst, true≢false, arith, eq-eqb, eqb-true, ne_eqb, lt-ltb, le-ltb}
+use Rattle.std.proofs.Common.{◌≡◌, ◌≢◌, ℕ, zero, suc, ◌+◌, ◌<◌, inl, inr, Bool, true, false, cond, not, ◌&&◌, ◌||◌, ◌==◌, nat_lt, List, length, Some, None, Option, refl, sym, ap, ◌∙◌, true≢false, arith, eq-eqb, eqb-true, lt-ltb, le-ltb}
 use Rattle.std.specs.List.{list_any}
-use Rattle.std.proofs.lemmas.Bool.{cases_lt, false_from_ne_true, and_parts, not-true, not-false, or_cases, or_left, or_right, or_from, eqb-false}
-use Rattle.mask_circuit.specs.Value.{xor}
+use Rattle.std.proofs.lemmas.Bool.{cases_lt, false_from_ne_true, and_parts, not-true, eqb-false}
 use Rattle.mask_circuit.specs.Wires.{Wire}
 use Rattle.mask_circuit.specs.Probing.{size, same_wire}
 use Rattle.mask_circuit.specs.Need.{ShareSet}
-use Rattle.mask_circuit.specs.Shift.{is_probed, wire_between, least, partner, is_some_of, flipped}
+use Rattle.mask_circuit.specs.Shift.{is_probed, wire_between, least, partner, is_some_of}
 use Rattle.mask_laws.proofs.Members.{below_cases}
-use Rattle.mask_laws.proofs.Sets.{size-mono, size-or, size-all, size-owned, list_any-or}
+use Rattle.mask_laws.proofs.Sets.{size-or, size-all, size-owned, list_any-or}
 
 -- THE LEAST NUMBER THAT PASSES
 
@@ -71,17 +70,20 @@ has_partner n wire Q test O i owner own fits demanded = go (partner n wire Q (λ
   where
     kept : ℕ → Bool
     kept k = list_any (λ w. test k w || same_wire (wire_between wire i k) w) Q
+
     one_reason : (same touched demanded' probed : Bool) → (same ≡ true → demanded' ≡ true) → (not same && not touched && not demanded' && not probed) ≡ false → (demanded' || (touched || probed)) ≡ true
     one_reason same touched true probed h e = refl
     one_reason same true false probed h e = refl
     one_reason same false false true h e = refl
     one_reason true false false false h e = h refl
     one_reason false false false false h e = cc
+
     all_kept : partner n wire Q (λ j. list_any (test j) Q) O i ≡ None → (k : ℕ) → k < n → (O k || kept k) ≡ true
     all_kept none k lt =
         rw (← (list_any-or (test k) (same_wire (wire_between wire i k)) Q))
         (one_reason (k == i) (list_any (test k) Q) (O k) (is_probed Q (wire_between wire i k)) (λ e. rw (eqb-true k i e) demanded)
         (least-None (λ j. not (j == i) && not (list_any (test j) Q) && not (O j) && not (is_probed Q (wire_between wire i j))) n none k lt))
+
     go : (o : Option ℕ) → partner n wire Q (λ j. list_any (test j) Q) O i ≡ o → (k : ℕ) × (partner n wire Q (λ j. list_any (test j) Q) O i ≡ Some k)
     go (Some k) found = (k, found)
     go None none =

@@ -1,8 +1,7 @@
 -- The law of any gate: each watched wire is kept.
-use Rattle.std.proofs.Common.{◌≡◌, ℕ, ◌+◌, ◌<◌, ◌≤◌, ◌⊎◌, inl, inr, Bool, true, false, cond, ◌&&◌, ◌||◌, ◌==◌, List, [], length, map, All, Contains, refl, sym, ap, subst, arith, eq-eqb}
+use Rattle.std.proofs.Common.{◌≡◌, ℕ, ◌<◌, ◌≤◌, inl, inr, Bool, true, false, cond, ◌&&◌, ◌||◌, ◌==◌, List, length, map, All, Contains, refl, sym, ap, subst, eq-eqb}
 use Rattle.std.proofs.lemmas.Bool.{and_from, or_left, or_right}
 use Rattle.std.proofs.lemmas.List.Elements.{All-weaker, All-contains}
-use Rattle.mask_circuit.specs.declared.gates.Gate.{Gate}
 use Rattle.mask_circuit.specs.declared.gates.Gate.TheVariants.{Zero, One, Xor, Not, And, Ref}
 use Rattle.mask_circuit.specs.Value.{xor}
 use Rattle.mask_circuit.specs.Ring.{bits}
@@ -13,8 +12,8 @@ use Rattle.mask_laws.specs.Names.{IsPair, IsProductName, IsRefreshName}
 use Rattle.mask_laws.specs.Gadgets.{AreInner, FitsGate, AgreeBefore, IsWatched, GateKeeps}
 use Rattle.mask_laws.proofs.Names.{Contains-pairs, gate_names-by_shape}
 use Rattle.mask_laws.proofs.FreshBits.{fresh_of-masked}
-use Rattle.mask_laws.proofs.Products.{AgreeAtProduct, product_keeps}
-use Rattle.mask_laws.proofs.Refreshes.{AgreeAtRefresh, refresh_keeps}
+use Rattle.mask_laws.proofs.Products.{product_keeps}
+use Rattle.mask_laws.proofs.Refreshes.{refresh_keeps}
 
 -- a gate that acts share by share keeps each watched wire whose share it keeps where it is demanded: it has no inner wires
 shares_keep : (n : ℕ) (Q : List Wire) (O : ShareSet) (s s' : Shares Bool) → All (λ w. Contains (share_names n) w × (is_share w ≡ false)) Q →
@@ -70,8 +69,10 @@ gate_keeps N One Q O s s' r two inner fits agree e w watched =
     shares_keep N Q O (λ i. cond (i == 0) true false) (λ i. cond (i == 0) true false) inner (λ i hi h. refl) w watched
 gate_keeps N (Xor u v) Q O s s' r two inner fits agree e w watched =
     shares_keep N Q O (λ i. xor (s u i) (s v i)) (λ i. xor (s' u i) (s' v i)) inner
-    (λ i hi h. rw (agree u i hi (and_from (u == u || u == v) (O i) (or_left (u == u) (u == v) (eq-eqb u u refl)) h),
-    agree v i hi (and_from (v == u || v == v) (O i) (or_right (v == u) (v == v) (eq-eqb v v refl)) h)) refl) w watched
+    (λ i hi h. rw (
+      agree u i hi (and_from (u == u || u == v) (O i) (or_left (u == u) (u == v) (eq-eqb u u refl)) h),
+      agree v i hi (and_from (v == u || v == v) (O i) (or_right (v == u) (v == v) (eq-eqb v v refl)) h),
+    ) refl) w watched
 gate_keeps N (Not u) Q O s s' r two inner fits agree e w watched =
     shares_keep N Q O (λ i. cond (i == 0) (xor (s u i) true) (s u i)) (λ i. cond (i == 0) (xor (s' u i) true) (s' u i)) inner
     (λ i hi h. ap (λ b. cond (i == 0) (xor b true) b) (agree u i hi (and_from (u == u) (O i) (eq-eqb u u refl) h))) w watched

@@ -6,6 +6,7 @@ pub mod Fitting
 pub mod FittingExamples
 pub mod Flips
 pub mod FreshBits
+pub mod GateExamples
 pub mod Gates
 pub mod Keeping
 pub mod LocalNumbers

@@ -1,10 +1,10 @@
 -- Each probe on a gate demands one share of each operand at most.
-use Rattle.std.proofs.Common.{◌≡◌, ◌≢◌, ℕ, ◌+◌, ◌<◌, ◌≤◌, ◌⊎◌, inl, inr, Bool, true, false, cond, not, ◌&&◌, ◌||◌, ◌==◌, List, [], ◌∷◌, length, refl, sym, ap, ◌∙◌, subst, arith, eqb-true}
+use Rattle.std.proofs.Common.{◌≡◌, ℕ, ◌≤◌, inl, inr, Bool, true, false, cond, not, ◌&&◌, ◌||◌, ◌==◌, List, length, sym, arith, eqb-true}
 use Rattle.std.specs.List.{list_any}
-use Rattle.std.proofs.lemmas.Bool.{cases_Bool, or_cases, and_parts}
+use Rattle.std.proofs.lemmas.Bool.{or_cases, and_parts}
 use Rattle.mask_circuit.specs.Wires.{Wire, Share, Product, Fresh, Left, Right, Partial}
 use Rattle.mask_circuit.specs.Probing.{size}
-use Rattle.mask_circuit.specs.Need.{ShareSet, is_of_row, product_rows, demands_left, demands_right, left_need, right_need, is_update_of, refresh_need}
+use Rattle.mask_circuit.specs.Need.{ShareSet, is_of_row, product_rows, demands_left, demands_right, left_need, right_need, is_update_of}
 use Rattle.mask_laws.specs.Needs.{NeedsAreSmall}
 use Rattle.mask_laws.proofs.Sets.{size-mono, size-owned, list_any-or}
 
@@ -82,7 +82,7 @@ size-left_need N Q =
 size-right_need : (N : ℕ) (Q : List Wire) → size N (right_need Q) ≤ length Q
 size-right_need N Q =
     let one_test = size-mono N (right_need Q) (λ i. list_any (λ w. is_of_row i w || demands_right (product_rows Q) i w) Q)
-            (λ i lt h. rw (← (list_any-or (is_of_row i) (demands_right (product_rows Q) i) Q)) h) in
+    (λ i lt h. rw (← (list_any-or (is_of_row i) (demands_right (product_rows Q) i) Q)) h) in
     let few = size-owned N (λ i w. is_of_row i w || demands_right (product_rows Q) i w) (right_of (product_rows Q)) Q (right_owner (product_rows Q)) in omega arith
 
 pub needs_are_small : NeedsAreSmall

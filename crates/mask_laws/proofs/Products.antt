@@ -1,12 +1,12 @@
 -- The law of a product.
-use Rattle.std.proofs.Common.{◌≡◌, ◌≢◌, ℕ, zero, suc, pred, ◌+◌, ◌<◌, ◌≤◌, ◌⊎◌, inl, inr, Bool, true, false, cond, not, ◌&&◌, ◌||◌, ◌==◌, nat_lt, List, [], ◌∷◌, length, All, Contains, Some, Option, refl, sym, ap, ◌∙◌, subst, arith, eq-eqb, lt-ltb, le-ltb}
+use Rattle.std.proofs.Common.{◌≡◌, ◌≢◌, ℕ, pred, ◌<◌, inl, inr, Bool, true, false, cond, ◌&&◌, ◌==◌, nat_lt, List, All, Contains, Some, refl, sym, ◌∙◌, subst, arith, eq-eqb, lt-ltb, le-ltb}
 use Rattle.std.specs.List.{list_any}
-use Rattle.std.proofs.lemmas.Bool.{cases_lt, or_cases, or_left, or_right, and_from}
+use Rattle.std.proofs.lemmas.Bool.{cases_lt, or_cases, or_left, or_right}
 use Rattle.std.proofs.lemmas.List.Elements.{All-contains}
 use Rattle.mask_circuit.specs.Value.{xor}
 use Rattle.mask_circuit.specs.Ring.{bits}
 use Rattle.mask_circuit.specs.Wires.{Wire, Share, Product, Fresh, Left, Right, Partial, row_sum, cross, product_wire}
-use Rattle.mask_circuit.specs.Probing.{size, same_wire}
+use Rattle.mask_circuit.specs.Probing.{same_wire}
 use Rattle.mask_circuit.specs.Need.{ShareSet, is_share, is_of_row, product_rows, demands_left, demands_right, left_need, right_need}
 use Rattle.mask_circuit.specs.Shift.{Sides, product_change, is_probed, wire_between, partner, product_base, cross_change, share_change, product_mask}
 use Rattle.mask_laws.specs.Names.{IsPair, IsProductName}
@@ -16,7 +16,7 @@ use Rattle.mask_laws.proofs.Sums.{row_sum-same, row_sum-xor, row_sum-none, row_s
 use Rattle.mask_laws.proofs.Sets.{list_any-passes}
 use Rattle.mask_laws.proofs.Names.{same_wire_self}
 use Rattle.mask_laws.proofs.Needs.{row_of, row_is}
-use Rattle.mask_laws.proofs.Flips.{flip, has_partner, IsPartner, partner-Some, flip-from_touched, flip-to_touched, flip-probed, flip-to_demanded, flip-at_partner, wire_between-is, other_end, other_end-forth, other_end-back}
+use Rattle.mask_laws.proofs.Flips.{flip, has_partner, partner-Some, flip-from_touched, flip-to_touched, flip-probed, flip-to_demanded, flip-at_partner, wire_between-is, other_end, other_end-forth, other_end-back}
 
 -- PARTNERS
 
@@ -74,10 +74,10 @@ cross-xor : (n : ℕ) (a b : Sides) (r r' m : ℕ → ℕ → Bool) → ((i j : 
     (i j : ℕ) → i < n → j < n → i ≢ j → cross bits a.two b.two r' i j ≡ xor (cross bits a.one b.one r i j) (cross_change a b m i j)
 cross-xor n a b r r' m differ i j hi hj ne =
     elim (cases_lt i j) [
-      inl l ↦ rw (lt-ltb i j l) (differ i j (l, hj))
+      | inl l ↦ rw (lt-ltb i j l) (differ i j (l, hj))
       | inr g ↦ rw (le-ltb i j g)
-        (three_terms (r j i) (r' j i) (m j i) (a.one j && b.one i) (a.two j && b.two i) (product_change a b j i)
-        (a.one i && b.one j) (a.two i && b.two j) (product_change a b i j) (differ j i (omega arith, hi)) (term-xor a b j i) (term-xor a b i j))
+          (three_terms (r j i) (r' j i) (m j i) (a.one j && b.one i) (a.two j && b.two i) (product_change a b j i)
+          (a.one i && b.one j) (a.two i && b.two j) (product_change a b i j) (differ j i (omega arith, hi)) (term-xor a b j i) (term-xor a b i j))
     ]
 
 -- .. and the sum of a row by the sum of what its terms change by
@@ -88,23 +88,6 @@ row-xor n a b r r' m differ i k hi hk =
     row_sum-same (a.two i && b.two i) (xor (a.one i && b.one i) (product_change a b i i)) (cross bits a.two b.two r' i)
     (λ j. xor (cross bits a.one b.one r i j) (cross_change a b m i j)) i k (term-xor a b i i) (λ j le ne. cross-xor n a b r r' m differ i j hi (omega arith) ne)
     ∙ row_sum-xor (a.one i && b.one i) (product_change a b i i) (cross bits a.one b.one r i) (cross_change a b m i) i k
-
--- whether the bit of rows i and j is flipped for row i
-abbrev product_flip : ℕ → List Wire → ShareSet → Sides → Sides → ℕ → ℕ → Bool
-product_flip n Q O a b = flip n Left Q (product_rows Q) O (share_change n a b (product_base Q a b))
-
--- the change of r_ij under the mask is that under the base with the flips for both rows
-cross_change-mask : (n : ℕ) (Q : List Wire) (O : ShareSet) (a b : Sides) (i j : ℕ) →
-    cross_change a b (product_mask n Q O a b) i j ≡ xor (cross_change a b (product_base Q a b) i j) (xor (product_flip n Q O a b i j) (product_flip n Q O a b j i))
-cross_change-mask n Q O a b i j = go (nat_lt i j)
-  where
-    moved : (m f g d e : Bool) → xor (xor (xor m (xor f g)) d) e ≡ xor (xor (xor m d) e) (xor g f)
-    moved m f g d e = rw (xor_right_comm m (xor f g) d, xor_right_comm (xor m d) (xor f g) e, xor_comm f g) refl
-    go : (below : Bool) → cond below (product_mask n Q O a b i j) (xor (xor (product_mask n Q O a b j i) (product_change a b j i)) (product_change a b i j))
-        ≡ xor (cond below (product_base Q a b i j) (xor (xor (product_base Q a b j i) (product_change a b j i)) (product_change a b i j)))
-        (xor (product_flip n Q O a b i j) (product_flip n Q O a b j i))
-    go true = refl
-    go false = moved (product_base Q a b j i) (product_flip n Q O a b j i) (product_flip n Q O a b i j) (product_change a b j i) (product_change a b i j)
 
 -- THE LAW
 
@@ -126,6 +109,14 @@ module _ (n : ℕ) (Q : List Wire) (O : ShareSet) (a b : Sides) (r r' : ℕ → 
   abbrev mask : ℕ → ℕ → Bool
   mask = product_mask n Q O a b
 
+  -- output share i changes so under the base
+  abbrev change : ℕ → Bool
+  change = share_change n a b base
+
+  -- whether the bit of rows i and j is flipped for row i
+  abbrev flip_for : ℕ → ℕ → Bool
+  flip_for = flip n Left Q T O change
+
   abbrev one : Wire → Bool
   one = product_wire bits n a.one b.one r
 
@@ -146,6 +137,18 @@ module _ (n : ℕ) (Q : List Wire) (O : ShareSet) (a b : Sides) (r r' : ℕ → 
   right_demanded : (i : ℕ) (w : Wire) → i < n → Contains Q w → demands_right T i w ≡ true → b.one i ≡ b.two i
   right_demanded i w hi probed demands = agree.right i hi (or_right (T i) (list_any (demands_right T i) Q) (list_any-passes (demands_right T i) Q w probed demands))
 
+  -- the change of r_ij under the mask is that under the base with the flips for both rows
+  cross_change-mask : (i j : ℕ) → cross_change a b mask i j ≡ xor (cross_change a b base i j) (xor (flip_for i j) (flip_for j i))
+  cross_change-mask i j = go (nat_lt i j)
+    where
+      moved : (m f g d e : Bool) → xor (xor (xor m (xor f g)) d) e ≡ xor (xor (xor m d) e) (xor g f)
+      moved m f g d e = rw (xor_right_comm m (xor f g) d, xor_right_comm (xor m d) (xor f g) e, xor_comm f g) refl
+
+      go : (below : Bool) → cond below (mask i j) (xor (xor (mask j i) (product_change a b j i)) (product_change a b i j))
+          ≡ xor (cond below (base i j) (xor (xor (base j i) (product_change a b j i)) (product_change a b i j))) (xor (flip_for i j) (flip_for j i))
+      go true = refl
+      go false = moved (base j i) (flip_for j i) (flip_for i j) (product_change a b j i) (product_change a b i j)
+
   -- under the base no r_ij of a touched row changes ..
   base_touched : (i j : ℕ) → i < n → j < n → T i ≡ true → cross_change a b base i j ≡ false
   base_touched i j hi hj touched = go (nat_lt i j) (T j) refl
@@ -159,8 +162,12 @@ module _ (n : ℕ) (Q : List Wire) (O : ShareSet) (a b : Sides) (r r' : ℕ → 
   -- .. nor does it under the mask
   cross_touched : (i j : ℕ) → i < n → j < n → T i ≡ true → cross_change a b mask i j ≡ false
   cross_touched i j hi hj touched =
-      rw (cross_change-mask n Q O a b i j, base_touched i j hi hj touched, flip-from_touched n Left Q T O (share_change n a b base) i j touched,
-      flip-to_touched n Left Q T O (share_change n a b base) i j touched) refl
+      rw (
+        cross_change-mask i j,
+        base_touched i j hi hj touched,
+        flip-from_touched n Left Q T O change i j touched,
+        flip-to_touched n Left Q T O change i j touched,
+      ) refl
 
   -- so each r_ij of a touched row is kept ..
   kept_cross : (i j : ℕ) → i < n → j < n → i ≢ j → T i ≡ true → cross bits a.one b.one r i j ≡ cross bits a.two b.two r' i j
@@ -185,16 +192,18 @@ module _ (n : ℕ) (Q : List Wire) (O : ShareSet) (a b : Sides) (r r' : ℕ → 
   demanded_row : (i : ℕ) → i < n → O i ≡ true → T i ≡ false → row_sum bits (product_change a b i i) (cross_change a b mask i) i (pred n) ≡ false
   demanded_row i hi demanded untouched = go (product_partner n Q O i agree.fits demanded)
     where
-      change : Bool
-      change = share_change n a b base i
       go : (p : ℕ) × (partner n Left Q T O i ≡ Some p) → row_sum bits (product_change a b i i) (cross_change a b mask i) i (pred n) ≡ false
       go (p, found) =
           let is = partner-Some n Left Q T O i p found in
-          row_sum-same (product_change a b i i) (product_change a b i i) (cross_change a b mask i) (λ j. xor (cross_change a b base i j) (change && p == j)) i (pred n) refl
-          (λ j le ne. rw (cross_change-mask n Q O a b i j, flip-to_demanded n Left Q T O (share_change n a b base) i j demanded,
-          flip-at_partner n Left Q T O (share_change n a b base) i j p demanded untouched found, xor-false (change && p == j)) refl)
-          ∙ row_sum-one_more (product_change a b i i) change (cross_change a b base i) p i (pred n) is.apart (let below = is.below in omega arith)
-          ∙ xor_self change
+          row_sum-same (product_change a b i i) (product_change a b i i) (cross_change a b mask i) (λ j. xor (cross_change a b base i j) (change i && p == j)) i (pred n) refl
+          (λ j le ne. rw (
+            cross_change-mask i j,
+            flip-to_demanded n Left Q T O change i j demanded,
+            flip-at_partner n Left Q T O change i j p demanded untouched found,
+            xor-false (change i && p == j),
+          ) refl)
+          ∙ row_sum-one_more (product_change a b i i) (change i) (cross_change a b base i) p i (pred n) is.apart (let below = is.below in omega arith)
+          ∙ xor_self (change i)
 
   -- an output share that is demanded is kept
   kept_share : (i : ℕ) → i < n → O i ≡ true → one (Share i) ≡ two (Share i)
@@ -210,6 +219,7 @@ module _ (n : ℕ) (Q : List Wire) (O : ShareSet) (a b : Sides) (r r' : ℕ → 
     where
       hi : i < n
       hi = omega (arith, is.0, is.1)
+
       go : (t : Bool) → T i ≡ t → (u : Bool) → T j ≡ u → xor (base i j) (product_change a b i j) ≡ false
       go true at true at' = rw at (no_change a b i j (left_touched i hi at) (right_touched j is.1 at'))
       go true at false at' =
@@ -226,7 +236,7 @@ module _ (n : ℕ) (Q : List Wire) (O : ShareSet) (a b : Sides) (r r' : ℕ → 
       let forth : is_probed Q (wire_between Left i j) ≡ true = rw (lt-ltb i j is.0) hit in
       let back : is_probed Q (wire_between Left j i) ≡ true = rw (le-ltb j i (omega (arith, is.0))) hit in
       let unflipped : mask i j ≡ base i j =
-          rw (flip-probed n Left Q T O (share_change n a b base) i j forth, flip-probed n Left Q T O (share_change n a b base) j i back) (xor-false (base i j)) in
+      rw (flip-probed n Left Q T O change i j forth, flip-probed n Left Q T O change j i back) (xor-false (base i j)) in
       same_under_no_change (one (Left i j)) (two (Left i j)) (xor (mask i j) (product_change a b i j))
       (two_terms (r i j) (r' i j) (mask i j) (a.one i && b.one j) (a.two i && b.two j) (product_change a b i j) (agree.fresh i j is) (term-xor a b i j))
       (rw unflipped (base_left i j is probed hit))

@@ -1,11 +1,11 @@
 -- The mask of a gate is the same with the sides changed.
-use Rattle.std.proofs.Common.{◌≡◌, ℕ, pred, Bool, not, ◌&&◌, false, cond, nat_lt, List, map, refl, sym, ap}
+use Rattle.std.proofs.Common.{◌≡◌, ℕ, pred, Bool, not, ◌&&◌, false, cond, nat_lt, List, map, refl, ap}
 use Rattle.mask_circuit.specs.declared.gates.Gate.TheVariants.{Zero, One, Xor, Not, And, Ref}
 use Rattle.mask_circuit.specs.Value.{xor}
 use Rattle.mask_circuit.specs.Ring.{bits}
 use Rattle.mask_circuit.specs.Wires.{Wire, Fresh, Left, Shares, pairs, row_sum}
 use Rattle.mask_circuit.specs.Need.{ShareSet, product_rows, refresh_need}
-use Rattle.mask_circuit.specs.Shift.{Sides, product_change, is_probed, partner, flipped, product_mask, refresh_mask, sides_of, gate_mask}
+use Rattle.mask_circuit.specs.Shift.{Sides, product_change, is_probed, partner, flipped, sides_of}
 use Rattle.mask_laws.specs.Gadgets.{MaskIsSymmetric}
 use Rattle.mask_laws.proofs.Bits.{xor_comm}
 
