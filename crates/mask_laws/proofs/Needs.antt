@@ -31,7 +31,7 @@ row_is i (Right k l) h = sym (eqb-true l i h)
 row_is i (Partial k l) h = sym (eqb-true k i h)
 
 -- the share of the first operand that a wire of a product demands, if there is one
-left_owner : (i : ℕ) (w : Wire) → (is_of_row i w || demands_left i w) ≡ true → i ≡ row_of w
+pub left_owner : (i : ℕ) (w : Wire) → (is_of_row i w || demands_left i w) ≡ true → i ≡ row_of w
 unfolding row_of
 left_owner i (Share k) h = cc
 left_owner i (Product k l) h = either (k == i && l == i) (k == i) (λ e. row_is i (Product k l) e) (λ e. sym (eqb-true k i e)) h
@@ -41,7 +41,7 @@ left_owner i (Right k l) h = either (l == i) false (λ e. sym (eqb-true l i e)) 
 left_owner i (Partial k l) h = either (k == i) false (λ e. sym (eqb-true k i e)) (λ e. cc) h
 
 -- the share of the second one, where T has the touched rows
-right_of : ShareSet → Wire → ℕ
+pub right_of : ShareSet → Wire → ℕ
 right_of T (Share k) = 0
 right_of T (Product k l) = l
 right_of T (Fresh k l) = k
@@ -49,7 +49,7 @@ right_of T (Left k l) = cond (T k) l k
 right_of T (Right k l) = l
 right_of T (Partial k l) = k
 
-right_owner : (T : ShareSet) (i : ℕ) (w : Wire) → (is_of_row i w || demands_right T i w) ≡ true → i ≡ right_of T w
+pub right_owner : (T : ShareSet) (i : ℕ) (w : Wire) → (is_of_row i w || demands_right T i w) ≡ true → i ≡ right_of T w
 unfolding right_of
 right_owner T i (Share k) h = cc
 right_owner T i (Product k l) h = either (k == i && l == i) (l == i)

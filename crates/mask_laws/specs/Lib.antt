@@ -1,3 +1,4 @@
+pub mod Circuits
 pub mod Gadgets
 pub mod Names
 pub mod Needs

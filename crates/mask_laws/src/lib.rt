@@ -3,4 +3,5 @@
 //! Each law is the contract of a public function with nothing to do; a crate above calls it, or cites its lemma.
 #![tactic(auto)]
 
+pub mod circuits;
 pub mod gadgets;
