@@ -1,13 +1,13 @@
 -- What a reader has after each kind of line.
-use Rattle.std.proofs.Common.{◌≡◌, ℕ, zero, suc, ◌+◌, ◌<◌, ◌≤◌, Bool, true, false, not, ◌&&◌, leb, ltb, eqb, List, [], ◌∷◌, ◌++◌, length, Option, Some, None, refl, sym, ap, ◌∙◌, subst, arith, leb-true, leb-false, ltb-true, eqb-true}
+use Rattle.std.proofs.Common.{◌≡◌, ℕ, ◌+◌, ◌<◌, ◌≤◌, Bool, true, false, not, ◌&&◌, leb, ltb, eqb, List, [], ◌∷◌, ◌++◌, length, Option, Some, None, refl, sym, ap, ◌∙◌, subst, arith, leb-true, leb-false, ltb-true, eqb-true}
 use Rattle.std.specs.Prelude.{IsSome}
 use Rattle.std.proofs.lemmas.Bool.{and_parts, not-true, false≢true}
 use Rattle.mask_circuit.specs.declared.gates.Gate.{Gate}
 use Rattle.mask_circuit.specs.declared.limits.TheConstants.{MAX_VALUES, MAX_OUTPUTS}
 use Rattle.mask_circuit.specs.declared.labelled.TheConstants.{MAX_GROUPS}
-use Rattle.mask_circuit.specs.Netlist.{Netlist, value_count, only_inputs}
-use Rattle.mask_circuit.specs.Labels.{LabelledNetlist, sizes, is_taken}
-use Rattle.mask_circuit.specs.Text.{Line, First, Second, Inputs, Input, Makes, Output, Out, End}
+use Rattle.mask_circuit.specs.Netlist.{value_count, only_inputs}
+use Rattle.mask_circuit.specs.Labels.{LabelledNetlist, sizes}
+use Rattle.mask_circuit.specs.Text.{Line, First, Second, Inputs, Input, Makes, Output, Out}
 use Rattle.mask_text.specs.declared.place.Place.{Place}
 use Rattle.mask_text.specs.declared.place.Place.TheVariants.{Start, Size, Plain, Named, Ended}
 use Rattle.mask_text.specs.declared.said.Said.{Said}

@@ -1,10 +1,10 @@
 -- The lines of a circuit with one more part are those of the circuit and one more.
-use Rattle.std.proofs.Common.{◌≡◌, ℕ, zero, suc, ◌+◌, ◌<◌, ◌≤◌, List, [], ◌∷◌, ◌++◌, length, map, refl, sym, ap, ◌∙◌, append_assoc, append-nil, arith}
+use Rattle.std.proofs.Common.{◌≡◌, ℕ, ◌<◌, ◌≤◌, List, [], ◌∷◌, ◌++◌, length, map, refl, sym, ap, ◌∙◌, append_assoc, append-nil, arith}
 use Rattle.std.proofs.lemmas.List.{map-append}
 use Rattle.mask_circuit.specs.declared.gates.Gate.{Gate}
 use Rattle.mask_circuit.specs.Netlist.{Netlist, with_gate, with_output}
-use Rattle.mask_circuit.specs.Labels.{NamedGroup, LabelledNetlist, sizes}
-use Rattle.mask_circuit.specs.Text.{Line, First, Second, Inputs, Input, Makes, Output, Out, End, first_front, second_front, output_lines}
+use Rattle.mask_circuit.specs.Labels.{LabelledNetlist, sizes}
+use Rattle.mask_circuit.specs.Text.{Line, First, Second, Inputs, Input, Makes, Output, Out, first_front, second_front, output_lines}
 use Rattle.mask_text.specs.Faults.{more_inputs, more_gate, more_outputs, more_out}
 use Rattle.mask_text.proofs.Groups.{IsOpen, lines-push, lines-out}
 

@@ -1,8 +1,8 @@
 -- Groups that grow by one at their end, and the lines of their outputs.
-use Rattle.std.proofs.Common.{◌≡◌, ℕ, zero, suc, ◌+◌, ◌-◌, ◌<◌, ◌≤◌, Bool, true, false, List, [], ◌∷◌, ◌++◌, length, map, take, drop, refl, sym, ap, ◌∙◌, subst, append_assoc, append-nil, arith, length-append, length-drop, drop-drop, take_all}
-use Rattle.std.proofs.lemmas.List.{map-append, take-append-le, drop-append-le, drop_all}
+use Rattle.std.proofs.Common.{◌≡◌, ℕ, ◌+◌, ◌<◌, ◌≤◌, true, false, List, [], ◌∷◌, ◌++◌, length, map, take, drop, refl, sym, ap, ◌∙◌, subst, append_assoc, append-nil, arith, length-append, length-drop, take_all}
+use Rattle.std.proofs.lemmas.List.{map-append, take-append-le, drop-append-le}
 use Rattle.mask_circuit.specs.Labels.{NamedGroup, AreGroups, is_name, is_taken, sizes}
-use Rattle.mask_circuit.specs.Text.{Line, Output, Out, output_lines}
+use Rattle.mask_circuit.specs.Text.{Output, Out, output_lines}
 
 pub sizes-push : (gs : List NamedGroup) (g : NamedGroup) → sizes (gs ++ g ∷ []) ≡ sizes gs + g.size
 sizes-push [] g = omega arith

@@ -1,5 +1,5 @@
 -- Pieces between separators.
-use Rattle.std.proofs.Common.{◌≡◌, ℕ, suc, ◌+◌, ◌-◌, ◌<◌, ◌≤◌, Bool, true, false, cond, eqb, List, [], ◌∷◌, ◌++◌, length, get_or, take, drop, ◌⊎◌, inl, inr, refl, sym, ap, ◌∙◌, subst, arith, eq-eqb, add-one, length-drop, take_all}
+use Rattle.std.proofs.Common.{◌≡◌, ℕ, suc, ◌+◌, ◌-◌, ◌<◌, Bool, true, false, cond, eqb, List, [], ◌∷◌, length, get_or, take, drop, ◌⊎◌, inl, inr, refl, sym, ap, ◌∙◌, subst, arith, eq-eqb, add-one, length-drop, take_all}
 use Rattle.std.specs.List.{All, slice_split, onto_first}
 use Rattle.std.proofs.Math.Seq as seq
 use Rattle.std.proofs.lemmas.List.Splits.{slice_split_at, slice_split_none}

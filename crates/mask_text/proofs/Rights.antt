@@ -1,8 +1,7 @@
 -- What holds of a line of which nothing is wrong.
-use Rattle.std.proofs.Common.{◌≡◌, Bool, true, false, not, cond, Option, Some, None, refl}
+use Rattle.std.proofs.Common.{◌≡◌, Bool, true, false, not, cond, Some, None, refl}
 use Rattle.mask_circuit.specs.Labels.{LabelledNetlist}
 use Rattle.mask_circuit.specs.Text.{Line}
-use Rattle.mask_text.specs.declared.errors.Reason.{Reason}
 use Rattle.mask_text.specs.declared.errors.Reason.TheVariants.{UnknownValue, TooManyValues, BadName}
 use Rattle.mask_text.specs.Faults.{has_taken_name, is_known, is_within, wrong}
 

@@ -1,5 +1,5 @@
 -- Reading without the numbers of the lines: over the words of the lines that count.
-use Rattle.std.proofs.Common.{◌≡◌, ℕ, ◌+◌, Bool, true, false, cond, List, [], ◌∷◌, Option, Some, None, Result, Ok, Err, refl, sym, ap, ◌∙◌}
+use Rattle.std.proofs.Common.{◌≡◌, ℕ, ◌+◌, Bool, true, false, cond, List, [], ◌∷◌, Option, Some, None, Result, Ok, Err, refl, ap, ◌∙◌}
 use Rattle.mask_circuit.specs.Labels.{LabelledNetlist}
 use Rattle.mask_circuit.specs.Text.{Line}
 use Rattle.mask_text.specs.declared.place.Place.{Place}
@@ -7,7 +7,7 @@ use Rattle.mask_text.specs.declared.place.Place.TheVariants.{Start, Size, Plain,
 use Rattle.mask_text.specs.declared.errors.Reason.{Reason}
 use Rattle.mask_text.specs.Lines.{words, is_passed_over, kept}
 use Rattle.mask_text.specs.Sayings.{said}
-use Rattle.mask_text.specs.Faults.{Draft, Fault, at_end, going_on, step, unless_unsaid, unless_misplaced, unless_wrong, goes_on, wrong, misplaced, read_from, fault_at}
+use Rattle.mask_text.specs.Faults.{Draft, Fault, at_end, going_on, step, unless_unsaid, unless_misplaced, unless_wrong, goes_on, wrong, read_from}
 
 abbrev pub right_part : Result LabelledNetlist Fault → Option LabelledNetlist
 right_part (Ok l) = Some l

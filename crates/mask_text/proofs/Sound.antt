@@ -1,27 +1,26 @@
 -- What is read is what the text stands for.
-use Rattle.std.proofs.Common.{◌≡◌, ℕ, zero, suc, ◌+◌, ◌<◌, ◌≤◌, Bool, true, false, not, ◌&&◌, cond, leb, ltb, eqb, List, [], ◌∷◌, ◌++◌, length, map, Option, Some, None, Result, Ok, Err, ◌⊎◌, inl, inr, refl, sym, ap, ◌∙◌, subst, append_assoc, append-nil, arith, leb-true, leb-false, ltb-true, eqb-true}
-use Rattle.std.proofs.lemmas.Bool.{and_parts, not-true, not-false}
+use Rattle.std.proofs.Common.{◌≡◌, ℕ, zero, suc, ◌+◌, ◌<◌, ◌≤◌, Bool, true, false, not, ◌&&◌, leb, ltb, eqb, List, [], ◌∷◌, ◌++◌, length, map, Some, Result, Ok, Err, ◌⊎◌, inl, inr, refl, sym, ap, ◌∙◌, subst, append_assoc, append-nil, arith, leb-true, leb-false, ltb-true, eqb-true}
+use Rattle.std.proofs.lemmas.Bool.{and_parts, not-true}
 use Rattle.std.proofs.lemmas.List.{map-append}
 use Rattle.mask_circuit.specs.declared.gates.Gate.{Gate}
 use Rattle.mask_circuit.specs.declared.limits.TheConstants.{MAX_VALUES, MAX_OUTPUTS}
 use Rattle.mask_circuit.specs.declared.labelled.TheConstants.{MAX_GROUPS}
-use Rattle.mask_circuit.specs.Netlist.{Netlist, IsCircuit, value_count, only_inputs}
-use Rattle.mask_circuit.specs.Labels.{NamedGroup, LabelledNetlist, IsLabelled, AreGroups, is_taken, is_name, sizes, one_group, with_plain_groups}
+use Rattle.mask_circuit.specs.Netlist.{Netlist, IsCircuit, only_inputs}
+use Rattle.mask_circuit.specs.Labels.{LabelledNetlist, IsLabelled, AreGroups, is_taken, is_name, sizes, one_group, with_plain_groups}
 use Rattle.mask_circuit.specs.Text.{Line, First, Second, Inputs, Input, Makes, Output, Out, End, line_words, first_front, second_front, first_lines, second_lines}
 use Rattle.mask_text.specs.declared.place.Place.{Place}
 use Rattle.mask_text.specs.declared.place.Place.TheVariants.{Start, Size, Plain, Named, Ended}
 use Rattle.mask_text.specs.declared.errors.Reason.{Reason}
-use Rattle.mask_text.specs.declared.errors.Reason.TheVariants.{UnknownValue, TooManyValues, BadName}
-use Rattle.mask_text.specs.Lines.{text_lines, spoken, kept}
+use Rattle.mask_text.specs.Lines.{text_lines, spoken}
 use Rattle.mask_text.specs.Sayings.{said}
 use Rattle.mask_text.specs.Text.{IsText}
-use Rattle.mask_text.specs.Faults.{Draft, Fault, at, of_inputs, more_inputs, more_gate, more_outputs, more_out, is_full, has_no_gates, has_no_groups_out, if_so, goes_on, has_taken_name, is_known, is_within, wrong, are_below, at_start, read_from, reading, unless_unsaid}
+use Rattle.mask_text.specs.Faults.{Draft, at, of_inputs, more_inputs, more_gate, more_outputs, more_out, is_full, has_no_gates, has_no_groups_out, if_so, goes_on, has_taken_name, is_known, is_within, at_start, reading, unless_unsaid}
 use Rattle.mask_text.proofs.Circuits.{operands_below, circuit-inputs, circuit-gate, circuit-out}
 use Rattle.mask_text.proofs.Groups.{sizes-push, length-push, AreGroups-push, IsOpen, open-none, open-push}
 use Rattle.mask_text.proofs.Fronts.{empty_list, first_front-gate, first_front-out, second_front-input, second_front-gate, second_front-group, second_front-out}
 use Rattle.mask_text.proofs.Rights.{IsRight, right_means}
 use Rattle.mask_text.proofs.Meanings.{IsSmall, said-takes}
-use Rattle.mask_text.proofs.Run.{right_part, ended, run, run_on, run-kept, Takes, step-takes}
+use Rattle.mask_text.proofs.Run.{right_part, ended, run, run_on, run-kept, step-takes}
 
 -- a labelled circuit whose last group may lack outputs
 pub record IsDraft (l : LabelledNetlist) : Type 0 where

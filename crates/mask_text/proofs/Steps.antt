@@ -3,7 +3,6 @@ use Rattle.std.proofs.Common.{◌≡◌, ℕ, ◌+◌, Bool, true, false, List, 
 use Rattle.std.specs.Prelude.{IsSome}
 use Rattle.std.specs.Option.{option_map}
 use Rattle.std.proofs.lemmas.Bool.{cond-true, cond-false, false≢true}
-use Rattle.mask_circuit.specs.Labels.{LabelledNetlist}
 use Rattle.mask_circuit.specs.Text.{Line, First, Second, Inputs, Input, Makes, Output, Out, End}
 use Rattle.mask_text.specs.declared.errors.Stop.{Stop}
 use Rattle.mask_text.specs.declared.errors.Stop.TheVariants.{Faulty, NoMemory}
@@ -16,7 +15,7 @@ use Rattle.mask_text.specs.declared.errors.Reason.TheVariants.{NoEnd}
 use Rattle.mask_text.specs.Lines.{text_lines, words, is_passed_over}
 use Rattle.mask_text.specs.Sayings.{said}
 use Rattle.mask_text.specs.Says.{HasNameInForm}
-use Rattle.mask_text.specs.Faults.{Draft, Fault, at, fault_at, at_end, going_on, step, unless_unsaid, unless_misplaced, unless_wrong, goes_on, wrong, misplaced, read_from, reading, at_start, error_of, fault}
+use Rattle.mask_text.specs.Faults.{Draft, Fault, fault_at, at_end, going_on, step, unless_unsaid, unless_misplaced, unless_wrong, goes_on, wrong, misplaced, read_from, reading, at_start, error_of, fault}
 use Rattle.mask_text.proofs.Meanings.{IsSmall, said-takes}
 
 pub step_over : (d : Draft) (ws : List (List ℕ)) → is_passed_over ws ≡ true → step d ws ≡ Ok d

@@ -1,11 +1,11 @@
 -- The first fault of a text that stands for no circuit.
-use Rattle.std.specs.Prelude.{ℕ, suc, ◌+◌, ◌<◌, ◌≤◌, Bool, true, false, not, ◌&&◌, ◌||◌, ◌==◌, nat_le, nat_lt, if◌then◌else◌, Option, Some, None, Result, Ok, Err, List, [], ◌∷◌, ◌++◌, length}
+use Rattle.std.specs.Prelude.{ℕ, ◌+◌, Bool, true, false, not, ◌&&◌, ◌==◌, nat_le, nat_lt, if◌then◌else◌, Option, Some, None, Result, Ok, Err, List, [], ◌∷◌, ◌++◌, length}
 use Rattle.mask_circuit.specs.declared.gates.Gate.{Gate}
 use Rattle.mask_circuit.specs.declared.gates.Gate.TheVariants.{Zero, One, Xor, Not, And, Ref}
 use Rattle.mask_circuit.specs.declared.limits.TheConstants.{MAX_VALUES, MAX_OUTPUTS}
 use Rattle.mask_circuit.specs.declared.labelled.TheConstants.{MAX_GROUPS}
-use Rattle.mask_circuit.specs.Netlist.{Netlist, value_count, only_inputs, with_gate, with_output}
-use Rattle.mask_circuit.specs.Labels.{NamedGroup, LabelledNetlist, is_taken, sizes, with_plain_groups}
+use Rattle.mask_circuit.specs.Netlist.{value_count, only_inputs, with_gate, with_output}
+use Rattle.mask_circuit.specs.Labels.{LabelledNetlist, is_taken, sizes, with_plain_groups}
 use Rattle.mask_circuit.specs.Text.{Line, First, Second, Inputs, Input, Makes, Output, Out, End}
 use Rattle.mask_text.specs.Lines.{text_lines, words, is_passed_over}
 use Rattle.mask_text.specs.Sayings.{said}

@@ -1,5 +1,5 @@
 -- What contracts say of a reader.
-use Rattle.std.specs.Prelude.{◌≡◌, ℕ, ◌≤◌, Result, Ok, Err, Option, Some, None, length}
+use Rattle.std.specs.Prelude.{◌≡◌, ℕ, ◌≤◌, Result, Ok, Err, Option, Some, length}
 use Rattle.mask_circuit.specs.Labels.{LabelledNetlist, sizes}
 use Rattle.mask_text.specs.declared.place.Place.{Place}
 use Rattle.mask_text.specs.declared.place.Place.TheVariants.{Start, Size, Plain, Named, Ended}

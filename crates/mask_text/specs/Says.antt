@@ -1,5 +1,5 @@
 -- What the code's word for a line stands for.
-use Rattle.std.specs.Prelude.{◌≡◌, true, ◌≤◌, ℕ, List}
+use Rattle.std.specs.Prelude.{◌≡◌, true}
 use Rattle.mask_circuit.specs.Labels.{is_name}
 use Rattle.mask_circuit.specs.Text as text
 use Rattle.mask_text.specs.declared.said.Said.{Said}

@@ -2,8 +2,10 @@
 
 ghost use Rattle.std.specs.Prelude.{◌≡◌};
 ghost use Rattle.mask_text.specs.declared.errors.Stop.TheVariants.{NoMemory};
+ghost use Rattle.mask_text.specs.declared.errors.TextError.TheVariants as errors;
 
 use mask_circuit::CircuitError;
+use mask_io::Failed;
 use std::alloc::{AllocError, AllocFailed};
 
 /// What is wrong with a line of a text.
@@ -36,6 +38,22 @@ pub enum TextError {
     ReadFault,
     /// There is no memory.
     NoMemory,
+}
+
+impl From<Failed> for TextError {
+    ghost from_gives = { λ _ e. e ≡ errors.ReadFault };
+
+    fn from(_failed: Failed) -> TextError {
+        TextError::ReadFault
+    }
+}
+
+impl From<AllocError> for TextError {
+    ghost from_gives = { λ _ e. e ≡ errors.NoMemory };
+
+    fn from(_error: AllocError) -> TextError {
+        TextError::NoMemory
+    }
 }
 
 /// Why a reader doesn't take a line.

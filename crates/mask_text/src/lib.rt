@@ -13,9 +13,11 @@ mod read;
 mod reader;
 mod said;
 mod sayings;
+mod source;
 
 pub use errors::{Reason, TextError};
 pub use read::{MAX_TEXT, read_text};
+pub use source::{PIECE, read_circuit, read_labelled};
 
 #[cfg(test)]
 mod tests;

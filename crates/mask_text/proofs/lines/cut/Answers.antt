@@ -1,5 +1,4 @@
-use Rattle.std.proofs.Common.{◌≡◌, ℕ, false, eqb, get_or, take, length, arith, ne_eqb, subst, take_all}
-use Rattle.std.specs.List.{All}
+use Rattle.std.proofs.Common.{◌≡◌, false, eqb, arith, ne_eqb, take_all}
 use Rattle.std.proofs.lemmas.List.Elements.{All-more}
 use Rattle.mask_text.proofs.Pieces.{cut_at, cut_none}
 use Rattle.mask_text.proofs.lines.cut.Goals as goal

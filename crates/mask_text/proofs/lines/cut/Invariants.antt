@@ -1,4 +1,4 @@
-use Rattle.std.proofs.Common.{◌≡◌, ℕ, ◌<◌, eqb, false, take}
+use Rattle.std.proofs.Common.{◌≡◌, ℕ, eqb, false, take}
 use Rattle.std.specs.List.{All}
 use Rattle.mask_text.proofs.lines.cut.Given as goal
 

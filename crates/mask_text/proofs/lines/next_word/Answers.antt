@@ -1,4 +1,4 @@
-use Rattle.std.proofs.Common.{◌≡◌, ◌<◌, length, sym, ◌∙◌, rules, arith}
+use Rattle.std.proofs.Common.{◌≡◌, ◌<◌, length, sym, ◌∙◌, arith}
 use Rattle.mask_text.proofs.Pieces.{words_first, words_later, words_none}
 use Rattle.mask_text.proofs.lines.next_word.Goals as goal
 

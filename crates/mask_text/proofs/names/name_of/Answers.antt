@@ -1,4 +1,4 @@
-use Rattle.std.proofs.Common.{◌≡◌, ℕ, ◌<◌, ◌≤◌, get_or, length, sym, ap, ◌∙◌, arith, length-take}
+use Rattle.std.proofs.Common.{◌<◌, length, sym, ap, ◌∙◌, arith, length-take}
 use Rattle.std.proofs.lemmas.Grind.{take_at_read}
 use Rattle.std.proofs.lemmas.Str.{encode_ascii}
 use Rattle.mask_text.proofs.Spellings.{name_means}

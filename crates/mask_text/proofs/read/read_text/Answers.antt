@@ -1,11 +1,10 @@
-use Rattle.std.proofs.Common.{◌≡◌, ℕ, ◌+◌, ◌≤◌, length, sym, ap, ◌∙◌, subst, arith}
+use Rattle.std.proofs.Common.{sym, ap, ◌∙◌, subst, arith}
 use Rattle.std.proofs.lemmas.Bool.{false≢true}
-use Rattle.mask_circuit.specs.Labels.{LabelledNetlist}
 use Rattle.mask_text.specs.declared.errors.TextError.{TextError}
 use Rattle.mask_text.specs.Lines.{text_lines, words}
 use Rattle.mask_text.specs.Text.{IsText}
 use Rattle.mask_text.specs.Faults.{Draft, read_from, step, fault}
-use Rattle.mask_text.specs.Readers.{draft_of, labelled_of, TellsFault}
+use Rattle.mask_text.specs.Readers.{draft_of, TellsFault}
 use Rattle.mask_text.proofs.Steps.{read_start, read_more, read_fault, read_none, read_done, tells_fault}
 use Rattle.mask_text.proofs.Sound.{sound}
 use Rattle.mask_text.proofs.read.read_text.Goals as goal

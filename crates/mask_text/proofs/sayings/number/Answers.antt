@@ -1,4 +1,4 @@
-use Rattle.std.proofs.Common.{◌≡◌, ◌+◌, ◌-◌, ◌*◌, ◌<◌, ◌^◌, true, get_or, ap, sym, ◌∙◌, subst, arith}
+use Rattle.std.proofs.Common.{◌≡◌, true, arith}
 use Rattle.mask_text.specs.Sayings.{is_number}
 use Rattle.mask_text.proofs.Numbers.{number_means}
 use Rattle.mask_text.proofs.Digits.{next_digit}

@@ -1,5 +1,5 @@
-use Rattle.std.proofs.Common.{◌≡◌, true, sym, ap, ◌∙◌}
-use Rattle.mask_text.specs.Lines.{words, words_of, is_passed_over}
+use Rattle.std.proofs.Common.{◌≡◌, true}
+use Rattle.mask_text.specs.Lines.{words, is_passed_over}
 use Rattle.mask_text.proofs.Steps.{step_over}
 use Rattle.mask_text.proofs.reader.Reader.line.Goals as goal
 

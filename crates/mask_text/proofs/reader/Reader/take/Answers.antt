@@ -1,4 +1,4 @@
-use Rattle.std.proofs.Common.{◌≡◌, Err, sym, ap, ◌∙◌}
+use Rattle.std.proofs.Common.{Err, sym, ap, ◌∙◌}
 use Rattle.mask_text.specs.Lines.{words_of}
 use Rattle.mask_text.specs.Says.{line_of}
 use Rattle.mask_text.specs.Readers.{draft_of}
