@@ -27,6 +27,11 @@ pub record Supply : Type 0 where
   pub wanted : ℕ
   pub script : Script
 
+-- a closed entropy: the count of faults, and what it wants
+pub record Refusals : Type 0 where
+  pub faults : ℕ
+  pub wanted : ℕ
+
 -- one more call was made, and it failed or didn't
 abbrev pub after_call : Script → Bool → Script
 after_call script failed =

@@ -44,8 +44,3 @@ IsProperPrefix front whole = (length front < length whole) × (take (length fron
 -- where a sink tells what was written, that grew by a part of the piece, and not by all of it
 abbrev pub AppendsProperPrefix : Option (List ℕ) → Option (List ℕ) → List ℕ → Type 0
 AppendsProperPrefix before now piece = (front : List ℕ) × IsProperPrefix front piece × Appends before now front
-
--- what a closed entropy, or a file as one, has refused: the count of faults, and the length of the latest buffer
-pub record Refusals : Type 0 where
-  pub faults : ℕ
-  pub wanted : ℕ

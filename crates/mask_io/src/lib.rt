@@ -17,6 +17,8 @@ mod adapters;
 mod calls;
 mod memory;
 mod seed;
+#[cfg(test)]
+mod tests;
 
 pub use adapters::{FileEntropy, StdSink, StdSource};
 pub use memory::{ClosedEntropy, ClosedSource, MemEntropy, MemSink, MemSource, SureSource};

@@ -247,7 +247,7 @@ impl Sink for MemSink {
         ensures fails { IsErr result
             ↔ (Contains self.old.script.fails self.old.script.made ⊎ ((0 < length piece.now) × (self.old.room ≡ 0))) }
         ensures count { IfOk result (λ n. n ≡ min self.old.piece (min (length piece.now) self.old.room)) }
-        ensures room { IfOk result (λ n. self.old.room ≡ self.new.room + n) }
+        ensures room { MatchResult result (λ n. self.old.room ≡ self.new.room + n) (λ _. self.new.room ≡ self.old.room) }
         ensures after { self.new ≡ record {
           written = self.new.written;
           room = self.new.room;
@@ -349,7 +349,7 @@ pub struct ClosedEntropy {
 }
 
 impl Model for ClosedEntropy {
-    ghost use Rattle.mask_io.specs.Outside.{Refusals};
+    ghost use Rattle.mask_io.specs.Memory.{Refusals};
 
     ghost Value = { Refusals };
 
