@@ -1,6 +1,6 @@
 -- What contracts see of the objects in memory.
-use Rattle.std.specs.Prelude.{ℕ, Bool, List, if◌then◌else◌}
-use Rattle.mask_io.specs.Outside.{counted}
+use Rattle.std.specs.Prelude.{ℕ, Bool, List}
+use Rattle.mask_io.specs.Outside.{counted, faults_after}
 
 -- the numbers of the calls that fail, the number of calls made, and the count of faults
 pub record Script : Type 0 where
@@ -35,4 +35,4 @@ pub record Refusals : Type 0 where
 -- one more call was made, and it failed or didn't
 abbrev pub after_call : Script → Bool → Script
 after_call script failed =
-    record script { made = counted script.made; faults = if failed then counted script.faults else script.faults }
+    record script { made = counted script.made; faults = faults_after failed script.faults }

@@ -3,11 +3,11 @@
 //! They tell no bytes: what a file holds isn't known here. A write that is done and a flush that
 //! fails would break a promise on what was written, too.
 
-ghost use Rattle.std.specs.Prelude.{◌≡◌, length, take, None, IfOk, OnOk, OnErr, MatchResult, if◌then◌else◌};
+ghost use Rattle.std.specs.Prelude.{◌≡◌, length, take, None, IfOk, OnOk, OnErr, MatchResult};
 ghost use Rattle.std.specs.Result.{is_err};
 ghost use Rattle.std.specs.Io.{WritesAtMost};
 ghost use Rattle.std.specs.Io.KnownBytes.{Appends, Consumes, ReadConsumes};
-ghost use Rattle.mask_io.specs.Outside.{counted, NeverFalls, Gives, Accepts, Takes, Fails};
+ghost use Rattle.mask_io.specs.Outside.{faults_after, NeverFalls, Gives, Accepts, Takes, Fails};
 
 use crate::{Entropy, Failed, Sink, Source};
 use std::io::{self, Read, Write};
@@ -51,10 +51,11 @@ impl<R: Read> Source for StdSource<R> {
         ensures ok { IfOk result (Gives None None buf.old buf.new) }
         ensures err { OnErr result (Fails None None self.old.faults self.new.faults) }
         ensures never_falls { NeverFalls self.old.faults self.new.faults }
-        ensures count { self.new.faults ≡ (if is_err result then counted self.old.faults else self.old.faults) }
+        ensures count { self.new.faults ≡ faults_after (is_err result) self.old.faults }
 
         // Where the reader's bytes are known, the source passes them on.
-        ensures passes { ReadConsumes (R.remaining self.old.inner) (R.remaining self.new.inner) result buf.new }
+        ensures passes { ReadConsumes (R.remaining self.old.inner) (R.remaining self.new.inner)
+            result buf.new }
     {
         let mut chunk = [0; CHUNK];
         let room = buf.len().min(CHUNK);
@@ -107,10 +108,11 @@ impl<W: Write> Sink for StdSink<W> {
         ensures ok { IfOk result (Accepts None None piece.now) }
         ensures err { OnErr result (Fails None None self.old.faults self.new.faults) }
         ensures never_falls { NeverFalls self.old.faults self.new.faults }
-        ensures count { self.new.faults ≡ (if is_err result then counted self.old.faults else self.old.faults) }
+        ensures count { self.new.faults ≡ faults_after (is_err result) self.old.faults }
 
         // Where the writer's bytes are known, the sink passes them on.
-        ensures passes { IfOk result (λ n. Appends (W.contents self.old.inner) (W.contents self.new.inner) (take n piece.now)) }
+        ensures passes { IfOk result
+            (λ n. Appends (W.contents self.old.inner) (W.contents self.new.inner) (take n piece.now)) }
     {
         match write_and_flush(&mut self.inner, piece) {
             Ok(count) if count > 0 || piece.is_empty() => Ok(count),
@@ -124,7 +126,8 @@ impl<W: Write> Sink for StdSink<W> {
 
 fn write_and_flush<W: Write>(inner: &mut W, piece: &[u8]) -> io::Result<usize>
     ensures bound { WritesAtMost result piece.now }
-    ensures bytes { IfOk result (λ n. Appends (W.contents inner.old) (W.contents inner.new) (take n piece.now)) }
+    ensures bytes { IfOk result
+        (λ n. Appends (W.contents inner.old) (W.contents inner.new) (take n piece.now)) }
 {
     let count = inner.write(piece)?;
     inner.flush()?;
@@ -177,10 +180,11 @@ impl<R: Read> Entropy for FileEntropy<R> {
         ensures wants { MatchResult result
             (λ _. self.new.wanted ≡ self.old.wanted)
             (λ _. self.new.wanted ≡ length buf.old) }
-        ensures count { self.new.faults ≡ (if is_err result then counted self.old.faults else self.old.faults) }
+        ensures count { self.new.faults ≡ faults_after (is_err result) self.old.faults }
 
         // Where the reader's bytes are known, the entropy passes them on.
-        ensures passes { OnOk result (Consumes (R.remaining self.old.inner) (R.remaining self.new.inner) buf.new) }
+        ensures passes { OnOk result
+            (Consumes (R.remaining self.old.inner) (R.remaining self.new.inner) buf.new) }
     {
         if self.inner.read_exact(buf).is_err() {
             self.faults = self.faults.saturating_add(1);
