@@ -3,3 +3,6 @@
 //! Each law is the contract of a public function with nothing to do; a crate above calls it, or cites its lemma.
 #![tactic(auto)]
 
+mod bridges;
+
+pub use bridges::{outputs_unmask, values_unmask};
