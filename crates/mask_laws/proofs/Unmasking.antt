@@ -10,7 +10,7 @@ use Rattle.mask_circuit.specs.Ring.{bits}
 use Rattle.mask_circuit.specs.Wires.{Wire, Share, Shares, each, pairs, fresh_of, cross, product_wire, fresh_between, refresh_wire, gate_draws, gate_wire}
 use Rattle.mask_circuit.specs.Expansion.{Trace, shares_of, put, start, run, expand}
 use Rattle.mask_laws.specs.Sharing.{xor_all, unshared_inputs, ValuesUnmask, OutputsUnmask}
-use Rattle.mask_laws.proofs.Sums.{total, total-xor, total_same, total_none, xor_all-each, row_sum-total, square, xor_false, xor_self, xor_comm}
+use Rattle.mask_laws.proofs.BitSums.{total, total-xor, total_same, total_none, xor_all-each, row_sum-total, square, xor_false, xor_self, xor_comm}
 
 -- GATES
 

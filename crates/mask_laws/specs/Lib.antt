@@ -1,2 +1,3 @@
+pub mod Clashes
 pub mod Gadgets
 pub mod Sharing

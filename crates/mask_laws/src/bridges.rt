@@ -1,5 +1,6 @@
-//! Laws that lead from the definitions of masking to those of plain circuits, of the checker and of wire numbers.
+//! Laws that lead from the definitions of masking to plain values, to what is computed of acceptance, and to places.
 
+ghost use Rattle.mask_laws.specs.Clashes.{TidyIsAccepted, ClashIsUnique, ClashRefutes, ClashDecides, TableReaches};
 ghost use Rattle.mask_laws.specs.Sharing.{ValuesUnmask, OutputsUnmask};
 
 /// The shares of each value of a circuit sum to its plain value on the bits that the input shares sum to.
@@ -12,4 +13,30 @@ pub fn values_unmask()
 #[tactic(auto, using(crate::proofs::Unmasking::outputs_unmask))]
 pub fn outputs_unmask()
     ensures { OutputsUnmask }
+{}
+
+/// A circuit with tidy gates is accepted.
+pub fn tidy_accepted()
+    ensures { TidyIsAccepted }
+{}
+
+/// The computed table holds just which value reaches which source.
+#[tactic(auto, using(crate::proofs::Reaching::table_reaches))]
+pub fn table_reaches()
+    ensures { TableReaches }
+{}
+
+/// A circuit has one clash at most.
+pub fn clash_is_unique()
+    ensures { ClashIsUnique }
+{}
+
+/// A circuit with a clash isn't accepted.
+pub fn clash_refutes()
+    ensures { ClashRefutes }
+{}
+
+/// The computed clash is None just where the circuit is accepted, and else it is the clash.
+pub fn clash_decides()
+    ensures { ClashDecides }
 {}

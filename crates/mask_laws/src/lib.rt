@@ -5,4 +5,7 @@
 
 mod bridges;
 
-pub use bridges::{outputs_unmask, values_unmask};
+pub use bridges::{
+    clash_decides, clash_is_unique, clash_refutes, outputs_unmask, table_reaches, tidy_accepted,
+    values_unmask,
+};
