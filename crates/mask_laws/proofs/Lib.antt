@@ -2,5 +2,12 @@ pub mod BitSums
 pub mod BridgeExamples
 pub mod Clashing
 pub mod Gates
+pub mod Keeping
+pub mod Names
+pub mod Probes
 pub mod Reaching
+pub mod Seen
+pub mod Shifts
+pub mod Tapes
+pub mod Traces
 pub mod Unmasking

@@ -1,3 +1,4 @@
+pub mod Circuits
 pub mod Clashes
 pub mod Gadgets
 pub mod Sharing
