@@ -4,6 +4,7 @@ pub mod Clashing
 pub mod Gates
 pub mod Keeping
 pub mod Names
+pub mod Numbering
 pub mod Probes
 pub mod Reaching
 pub mod Seen
@@ -11,3 +12,4 @@ pub mod Shifts
 pub mod Tapes
 pub mod Traces
 pub mod Unmasking
+pub mod OutputShares

@@ -1,4 +1,5 @@
 pub mod Circuits
 pub mod Clashes
 pub mod Gadgets
+pub mod Numbering
 pub mod Sharing

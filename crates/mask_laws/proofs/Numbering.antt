@@ -1,0 +1,143 @@
+-- The wires of a circuit by number and by name.
+use Rattle.std.proofs.Common.{◌≡◌, ℕ, zero, suc, ◌+◌, ◌-◌, ◌<◌, ◌≤◌, ◌⊎◌, inl, inr, Bool, true, false, cond, ◌&&◌, ◌==◌, nat_lt, List, [], ◌∷◌, ◌++◌, map, length, slice_get, slice_index_or, Contains, Some, None, refl, ap, ap₂, sym, ◌∙◌, subst, arith, append_assoc, append-nil, length-append}
+use Rattle.std.specs.declared.option.Option.{Option}
+use Rattle.std.specs.Option.{option_map}
+use Rattle.std.proofs.lemmas.Bool.{lt-ltb, le-ltb, cases_lt, cases_order, eq-eqb, eqb-true, and_parts, and_from, true≢false}
+use Rattle.std.proofs.lemmas.List.{map-append, length-map}
+use Rattle.std.proofs.lemmas.List.Elements.{Contains-get_or}
+use Rattle.std.proofs.lemmas.Option.{none-some, same_Some, slice_get-map, slice_get-get_or, slice_get_within}
+use Rattle.mask_circuit.specs.declared.gates.Gate.{Gate}
+use Rattle.mask_circuit.specs.declared.gates.Gate.TheVariants.{Zero, One, Xor, Not, And, Ref}
+use Rattle.mask_circuit.specs.Netlist.{Netlist, value_count}
+use Rattle.mask_circuit.specs.Wires.{Wire, Share, Product, Fresh, Left, Right, Partial, each, joined, share_names, gate_names}
+use Rattle.mask_circuit.specs.Expansion.{Place, names, names_from, wire_count}
+use Rattle.mask_circuit.specs.Probing.{same_wire, places_before, share_place}
+use Rattle.mask_circuit.specs.Acceptance.{gate_at}
+use Rattle.mask_laws.specs.Numbering.{names_by, names_of, wires_before, WiresInOrder, WiresAreCounted, SharesHavePlaces}
+use Rattle.mask_laws.proofs.Gates.{gate_at_input, Make, Make_all, Make_first, Make_rest}
+
+-- LISTS
+
+map-each : {A B : Type 0} (f : A → B) (g : ℕ → A) (n : ℕ) → map f (each g n) ≡ each (λ i. f (g i)) n
+map-each f g zero = refl
+map-each f g (suc n) = map-append f (each g n) (g n ∷ []) ∙ ap (λ xs. xs ++ f (g n) ∷ []) (map-each f g n)
+
+joined_same : {A : Type 0} (f g : ℕ → List A) (n : ℕ) → ((i : ℕ) → i < n → f i ≡ g i) → joined f n ≡ joined g n
+joined_same f g zero h = refl
+joined_same f g (suc n) h = ap₂ (λ xs ys. xs ++ ys) (joined_same f g n (λ i l. h i (omega arith))) (h n (omega arith))
+
+slice_get-append_left : {A : Type 0} (xs ys : List A) (k : ℕ) (a : A) → slice_get xs k ≡ Some a → slice_get (xs ++ ys) k ≡ Some a
+slice_get-append_left [] ys k a e = absurd (none-some a e)
+slice_get-append_left (x ∷ xs) ys zero a e = e
+slice_get-append_left (x ∷ xs) ys (suc k) a e = slice_get-append_left xs ys k a e
+
+slice_get-append_right : {A : Type 0} (xs ys : List A) (k : ℕ) → slice_get (xs ++ ys) (length xs + k) ≡ slice_get ys k
+slice_get-append_right [] ys k = let e : 0 + k ≡ k = omega arith in ap (slice_get ys) e
+slice_get-append_right (x ∷ xs) ys k =
+    let e : suc (length xs) + k ≡ suc (length xs + k) = omega arith in ap (slice_get (x ∷ (xs ++ ys))) e ∙ slice_get-append_right xs ys k
+
+-- element k of piece v stands k after all earlier pieces
+slice_get-joined : {A : Type 0} (f : ℕ → List A) (n v k : ℕ) (a : A) → v < n → slice_get (f v) k ≡ Some a → slice_get (joined f n) (length (joined f v) + k) ≡ Some a
+slice_get-joined f zero v k a lt e = absurd (omega arith)
+slice_get-joined f (suc n) v k a lt e = go (cases_order v n) (λ l. slice_get-joined f n v k a l e)
+  where
+    go : (v ≡ n) ⊎ ((v < n) ⊎ (n < v)) → (v < n → slice_get (joined f n) (length (joined f v) + k) ≡ Some a) →
+        slice_get (joined f n ++ f n) (length (joined f v) + k) ≡ Some a
+    go (inl same) up = subst (λ (m : ℕ). slice_get (joined f m ++ f m) (length (joined f v) + k) ≡ Some a) same
+        (slice_get-append_right (joined f v) (f v) k ∙ e)
+    go (inr (inl l)) up = slice_get-append_left (joined f n) (f n) _ a (up l)
+    go (inr (inr g)) up = absurd (omega arith)
+
+-- the first element that passes, where one alone can
+slice_get-places_before : {A : Type 0} (test : A → Bool) (xs : List A) (k : ℕ) (a : A) → slice_get xs k ≡ Some a → test a ≡ true →
+    ((b : A) → test b ≡ true → b ≡ a) → slice_get xs (places_before test xs) ≡ Some a
+slice_get-places_before test [] k a e passes one = absurd (none-some a e)
+slice_get-places_before test (x ∷ xs) k a e passes one =
+    go (test x) refl k e (λ j f. slice_get-places_before test xs j a f passes one)
+  where
+    go : (b : Bool) → test x ≡ b → (k : ℕ) → slice_get (x ∷ xs) k ≡ Some a → ((j : ℕ) → slice_get xs j ≡ Some a → slice_get xs (places_before test xs) ≡ Some a) →
+        slice_get (x ∷ xs) (cond b 0 (suc (places_before test xs))) ≡ Some a
+    go true is k e up = ap Some (one x is)
+    go false is zero e up = absurd (true≢false (sym passes ∙ ap test (sym (same_Some x a e)) ∙ is))
+    go false is (suc k) e up = up k e
+
+-- NAMES
+
+-- the wires of value v with their names
+abbrev named : Netlist → ℕ → ℕ → List Place
+named c N v = map (λ w. (v, w)) (names_of c N v)
+
+input_named : (c : Netlist) (N v : ℕ) → v < c.inputs → each (λ i. (v, Share i)) N ≡ named c N v
+input_named c N v lt = sym (ap (λ o. map (λ w. (v, w)) (names_by N o)) (gate_at_input c v lt) ∙ map-each (λ w. (v, w)) Share N)
+
+gates_named : (c : Netlist) (N : ℕ) (gs : List Gate) (n : ℕ) → Make c gs n → joined (named c N) n ++ names_from N gs n ≡ joined (named c N) (n + length gs)
+gates_named c N [] n make = let e : n ≡ n + 0 = omega arith in append-nil _ ∙ ap (joined (named c N)) e
+gates_named c N (g ∷ gs) n make =
+    let e : suc n + length gs ≡ n + suc (length gs) = omega arith in
+    sym (append_assoc (joined (named c N) n) (map (λ w. (n, w)) (gate_names N g)) (names_from N gs (suc n)))
+    ∙ ap (λ o. (joined (named c N) n ++ map (λ w. (n, w)) (names_by N o)) ++ names_from N gs (suc n)) (sym (Make_first c g gs n make))
+    ∙ gates_named c N gs (suc n) (Make_rest c g gs n make)
+    ∙ ap (joined (named c N)) e
+
+-- the list of all names is that of each value's names, joined
+pub names_joined : (c : Netlist) (N : ℕ) → names c N ≡ joined (named c N) (value_count c)
+names_joined c N =
+    ap (λ xs. xs ++ names_from N c.gates c.inputs) (joined_same _ _ c.inputs (input_named c N))
+    ∙ gates_named c N c.gates c.inputs (Make_all c)
+
+length-named : (c : Netlist) (N n : ℕ) → length (joined (named c N) n) ≡ wires_before c N n
+length-named c N zero = refl
+length-named c N (suc n) =
+    length-append (joined (named c N) n) (named c N n)
+    ∙ ap₂ (λ a b. a + b) (length-named c N n) (length-map (names_of c N n) (λ w. (n, w)))
+
+pub wires_are_counted : WiresAreCounted
+wires_are_counted c N = ap length (names_joined c N) ∙ length-named c N (value_count c)
+
+pub wires_in_order : WiresInOrder
+wires_in_order c N v k w lt e =
+    ap (λ xs. slice_get xs (wires_before c N v + k)) (names_joined c N)
+    ∙ ap (λ m. slice_get (joined (named c N) (value_count c)) (m + k)) (sym (length-named c N v))
+    ∙ slice_get-joined (named c N) (value_count c) v k (v, w) lt
+      (slice_get-map (λ w. (v, w)) (names_of c N v) k ∙ ap (option_map (λ w. (v, w))) e)
+
+-- SHARES
+
+-- share i alone is called so
+same_share : (i : ℕ) (w : Wire) → same_wire (Share i) w ≡ true → w ≡ Share i
+same_share i (Share k) e = ap Share (sym (eqb-true i k e))
+same_share i (Product j k) e = absurd (true≢false (sym e))
+same_share i (Fresh j k) e = absurd (true≢false (sym e))
+same_share i (Left j k) e = absurd (true≢false (sym e))
+same_share i (Right j k) e = absurd (true≢false (sym e))
+same_share i (Partial j k) e = absurd (true≢false (sym e))
+
+-- whether a place is share i of value u
+abbrev pub is_share_of : ℕ → ℕ → Place → Bool
+is_share_of u i p = p.0 == u && same_wire (Share i) p.1
+
+is_share_of-true : (u i : ℕ) (p : Place) → is_share_of u i p ≡ true → p ≡ (u, Share i)
+is_share_of-true u i p e =
+    let parts = and_parts (p.0 == u) (same_wire (Share i) p.1) e in
+    ap₂ (λ a b. (a, b)) (eqb-true p.0 u parts.0) (same_share i p.1 parts.1)
+
+is_share_of-same : (u i : ℕ) → is_share_of u i (u, Share i) ≡ true
+is_share_of-same u i = and_from (u == u) (i == i) (eq-eqb u u refl) (eq-eqb i i refl)
+
+-- each gate has its output shares among its wires
+abbrev pub GatesHaveShares : Type 0
+GatesHaveShares = (N : ℕ) (g : Gate) (i : ℕ) → 2 ≤ N → i < N → Contains (gate_names N g) (Share i)
+
+value_share : GatesHaveShares → (c : Netlist) (N u i : ℕ) → 2 ≤ N → i < N → Contains (names_of c N u) (Share i)
+value_share has c N u i two lt = go (gate_at c u)
+  where
+    go : (o : Option Gate) → Contains (names_by N o) (Share i)
+    go None = has N Zero i two lt
+    go (Some g) = has N g i two lt
+
+pub share_at : GatesHaveShares → SharesHavePlaces
+share_at has c N u i two within lt =
+    let k = value_share has c N u i two lt in
+    let at : slice_get (names_of c N u) k.0 ≡ Some (Share i) = slice_get-get_or (names_of c N u) k.0 (Share i) k.1 ∙ ap Some k.2 in
+    slice_get-places_before (is_share_of u i) (names c N) (wires_before c N u + k.0) (u, Share i)
+    (wires_in_order c N u k.0 (Share i) within at) (is_share_of-same u i) (is_share_of-true u i)
