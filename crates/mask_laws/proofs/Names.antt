@@ -1,124 +1,212 @@
--- The names of a circuit's wires.
-use Rattle.std.proofs.Common.{◌≡◌, ℕ, zero, suc, pred, ◌+◌, ◌-◌, ◌<◌, ◌≤◌, Bool, true, false, cond, ◌⊎◌, inl, inr, List, [], ◌∷◌, ◌++◌, length, map, All, Contains, flat_map, refl, ap, sym, subst, ◌∙◌, arith, ⊎_elim, le_refl, eq-or-lt_of_le}
-use Rattle.std.proofs.lemmas.List.Elements.{All-nil, All-cons, All-head, All-tail, All-append, All-map, All-weaker, All-contains, All-contains_itself, Contains-append_cases}
+-- The names of a gate's wires, by their shapes.
+use Rattle.std.proofs.Common.{◌≡◌, ◌≢◌, ℕ, zero, suc, pred, ◌+◌, ◌-◌, ◌<◌, ◌≤◌, ◌⊎◌, ◌↔◌, inl, inr, Bool, true, false, cond, ◌&&◌, ◌||◌, ◌==◌, nat_lt, List, [], ◌∷◌, ◌++◌, Contains, flat_map, refl, sym, ap, ◌∙◌, subst, arith, lt-ltb, le-ltb, eq-eqb, ne_eqb, eqb-true}
+use Rattle.std.proofs.lemmas.Bool.{cases_lt, cases_eq, cases_order, cond-true, cond-false, or_right, or_left, and_from, and_left}
+use Rattle.std.proofs.lemmas.List.Elements.{Contains-append_left, Contains-append_right, Contains-append_cases}
 use Rattle.mask_circuit.specs.declared.gates.Gate.{Gate}
 use Rattle.mask_circuit.specs.declared.gates.Gate.TheVariants.{Zero, One, Xor, Not, And, Ref}
-use Rattle.mask_circuit.specs.Netlist.{Netlist}
-use Rattle.mask_circuit.specs.Wires.{Wire, Share, Product, Fresh, Left, Right, Partial, Pair, each, joined, other, is_last, row_pairs, pairs, row_wire, share_names, product_names, refresh_names, gate_names}
-use Rattle.mask_circuit.specs.Expansion.{Place, names, names_from}
-use Rattle.mask_laws.proofs.Keeping.{AreNamed}
+use Rattle.mask_circuit.specs.Wires.{Wire, Share, Product, Fresh, Left, Right, Partial, Pair, each, joined, row_pairs, pairs, other, is_last, row_wire, share_names, product_names, refresh_names, gate_names}
+use Rattle.mask_laws.specs.Names.{IsShareName, IsPair, IsInnerColumn, IsProductName, IsRefreshName, IsGateName, GateHasNames}
+use Rattle.mask_laws.proofs.Members.{first_of_three, second_of_three, third_of_three, each_place, Contains-each, joined_piece, Contains-joined, flat_map_piece, Contains-flat_map, holds_of_three}
 
-pub All-each : {A : Type 0} (P : A → Type 0) (f : ℕ → A) (n : ℕ) → ((i : ℕ) → i < n → P (f i)) → All P (each f n)
-All-each P f zero h = All-nil P
-All-each P f (suc n) h = All-append P (each f n) (f n ∷ []) (All-each P f n (λ i k. h i (omega arith))) (All-cons P (f n) [] (h n (omega arith)) (All-nil P))
+-- PAIRS
 
-pub All-joined : {A : Type 0} (P : A → Type 0) (f : ℕ → List A) (n : ℕ) → ((i : ℕ) → i < n → All P (f i)) → All P (joined f n)
-All-joined P f zero h = All-nil P
-All-joined P f (suc n) h = All-append P (joined f n) (f n) (All-joined P f n (λ i k. h i (omega arith))) (h n (omega arith))
+-- an element of the pairs is a pair of two shares, the lower one first ..
+pub pairs_below : (n : ℕ) (p : Pair) → Contains (pairs n) p → IsPair n p.0 p.1
+pairs_below n p h =
+    let r = joined_piece (row_pairs n) n p h in
+    let m = each_place (λ (m : ℕ). (r.0, suc r.0 + m)) (n - suc r.0) p r.2 in
+    let first : r.0 ≡ p.0 = ap (λ (q : Pair). q.0) m.2 in
+    let second : suc r.0 + m.0 ≡ p.1 = ap (λ (q : Pair). q.1) m.2 in
+    (omega (arith, first, second), omega (arith, first, second, m.1))
 
-pub All-flat_map : {A B : Type 0} (P : B → Type 0) (Q : A → Type 0) (f : A → List B) → ((a : A) → Q a → All P (f a)) → (xs : List A) → All Q xs → All P (flat_map f xs)
-All-flat_map P Q f h [] all = All-nil P
-All-flat_map P Q f h (x ∷ xs) all = All-append P (f x) (flat_map f xs) (h x (All-head Q x xs all)) (All-flat_map P Q f h xs (All-tail Q x xs all))
+-- .. and each such pair is there
+pub Contains-pairs : (n i j : ℕ) → IsPair n i j → Contains (pairs n) (i, j)
+Contains-pairs n i j h =
+    let m : ℕ = j - suc i in
+    let at : suc i + m ≡ j = omega (arith, h.0) in
+    let below : m < n - suc i = omega (arith, h.0, h.1) in
+    Contains-joined (row_pairs n) n i (i, j) (omega (arith, h.0, h.1))
+    (subst (λ (k : ℕ). Contains (row_pairs n i) (i, k)) at (Contains-each (λ (k : ℕ). (i, suc i + k)) (n - suc i) m below))
 
-All-three : {A : Type 0} (P : A → Type 0) (a b c : A) → P a → P b → P c → All P (a ∷ b ∷ c ∷ [])
-All-three P a b c x y z = All-cons P a (b ∷ c ∷ []) x (All-cons P b (c ∷ []) y (All-cons P c [] z (All-nil P)))
+-- COLUMNS OF A ROW
 
--- a wire that is an output share is one of N
-abbrev pub IsShareBelow : ℕ → Wire → Type 0
-IsShareBelow N (Share i) = i < N
-IsShareBelow N (Product i j) = Unit {0}
-IsShareBelow N (Fresh i j) = Unit {0}
-IsShareBelow N (Left i j) = Unit {0}
-IsShareBelow N (Right i j) = Unit {0}
-IsShareBelow N (Partial i k) = Unit {0}
+-- the other columns of row i are below n, and none is i ..
+other-below : (n i m : ℕ) → i < n → m < pred n → other i m < n
+other-below n i m hi hm = elim (cases_lt m i) [ inl l ↦ rw (lt-ltb m i l) (omega arith) | inr g ↦ rw (le-ltb m i g) (omega arith) ]
 
-row_wire-below : (N i k : ℕ) → i < N → IsShareBelow N (row_wire N i k)
-row_wire-below N i k h = go (is_last N i k)
+other-apart : (i m : ℕ) → i ≢ other i m
+other-apart i m = elim (cases_lt m i) [ inl l ↦ rw (lt-ltb m i l) (omega arith) | inr g ↦ rw (le-ltb m i g) (omega arith) ]
+
+-- .. and each column but i is among them
+other_at : (n i k : ℕ) → i < n → k < n → i ≢ k → (m : ℕ) × (m < pred n) × (other i m ≡ k)
+other_at n i k hi hk ne =
+    elim (cases_lt k i) [ inl l ↦ (k, omega arith, rw (lt-ltb k i l) refl) | inr g ↦ (pred k, omega arith, rw (le-ltb (pred k) i (omega arith)) (omega arith)) ]
+
+-- the wire of row i at column k is a partial sum, or an output share at the last column
+row_wire-inner : (n i k : ℕ) → is_last n i k ≡ false → row_wire n i k ≡ Partial i k
+row_wire-inner n i k e = cond-false (is_last n i k) (Share i) (Partial i k) e
+
+row_wire-last : (n i k : ℕ) → is_last n i k ≡ true → row_wire n i k ≡ Share i
+row_wire-last n i k e = cond-true (is_last n i k) (Share i) (Partial i k) e
+
+-- what holds of the output share and of an inner column holds of the wire
+row_wire-is : (P : Wire → Type 0) (n i k : ℕ) → i < n → k < n → i ≢ k → P (Share i) → (IsInnerColumn n i k → P (Partial i k)) → P (row_wire n i k)
+row_wire-is P n i k hi hk ne last inner = go (is_last n i k) refl
   where
-    go : (b : Bool) → IsShareBelow N (cond b (Share i) (Partial i k))
-    go true = h
-    go false = tt
+    go : (b : Bool) → is_last n i k ≡ b → P (row_wire n i k)
+    go true e = subst P (sym (row_wire-last n i k e)) last
+    go false e = subst P (sym (row_wire-inner n i k e)) (inner (hi, hk, ne, e))
 
--- both shares of a pair are among the N
-pub pairs-below : (N : ℕ) → All (λ (p : Pair). (p.0 < N) × (p.1 < N)) (pairs N)
-pairs-below N = All-joined (λ (p : Pair). (p.0 < N) × (p.1 < N)) (row_pairs N) N
-    (λ i h. All-each (λ (p : Pair). (p.0 < N) × (p.1 < N)) (λ m. (i, suc i + m)) (N - suc i) (λ m k. (h, omega arith)))
+-- each row of two shares or more has a last column, which is another one
+has_last : (n i : ℕ) → 2 ≤ n → i < n → (k : ℕ) × (k < n) × (i ≢ k) × (is_last n i k ≡ true)
+has_last n i two hi =
+    elim (cases_eq (suc i) n) [
+      inl e ↦ (pred (pred n), omega arith, omega arith, or_right (suc (pred (pred n)) == n) _ (and_from _ _ (eq-eqb (suc i) n e) (eq-eqb _ _ (omega arith))))
+      | inr ne ↦ (pred n, omega arith, omega arith, or_left _ _ (eq-eqb (suc (pred n)) n (omega arith)))
+    ]
 
-share_names-below : (N : ℕ) → All (IsShareBelow N) (share_names N)
-share_names-below N = All-each (IsShareBelow N) Share N (λ i h. h)
+-- SHARES
 
-gate_names-below : (N : ℕ) (g : Gate) → All (IsShareBelow N) (gate_names N g)
-gate_names-below N Zero = share_names-below N
-gate_names-below N One = share_names-below N
-gate_names-below N (Xor u v) = share_names-below N
-gate_names-below N (Not u) = share_names-below N
-gate_names-below N (And u v) =
-    let terms = joined (λ i. each (Product i) N) N in
-    let crossed = λ (p : Pair). Fresh p.0 p.1 ∷ Left p.0 p.1 ∷ Right p.0 p.1 ∷ [] in
-    let row = λ (i : ℕ). each (λ m. row_wire N i (other i m)) (pred N) in
-    All-append (IsShareBelow N) (terms ++ flat_map crossed (pairs N)) (joined row N)
-        (All-append (IsShareBelow N) terms (flat_map crossed (pairs N))
-            (All-joined (IsShareBelow N) (λ i. each (Product i) N) N (λ i h. All-each (IsShareBelow N) (Product i) N (λ j k. tt)))
-            (All-flat_map (IsShareBelow N) (λ (p : Pair). (p.0 < N) × (p.1 < N)) crossed
-                (λ p h. All-three (IsShareBelow N) (Fresh p.0 p.1) (Left p.0 p.1) (Right p.0 p.1) tt tt tt) (pairs N) (pairs-below N)))
-        (All-joined (IsShareBelow N) row N (λ i h. All-each (IsShareBelow N) (λ m. row_wire N i (other i m)) (pred N) (λ m k. row_wire-below N i (other i m) h)))
-gate_names-below N (Ref u) =
-    All-flat_map (IsShareBelow N) (λ (p : Pair). (p.0 < N) × (p.1 < N)) (λ (p : Pair). Fresh p.0 p.1 ∷ row_wire N p.0 p.1 ∷ row_wire N p.1 p.0 ∷ [])
-        (λ p h. All-three (IsShareBelow N) (Fresh p.0 p.1) (row_wire N p.0 p.1) (row_wire N p.1 p.0) tt
-            (row_wire-below N p.0 p.1 h.0) (row_wire-below N p.1 p.0 h.1)) (pairs N) (pairs-below N)
+share_forward : (n : ℕ) (w : Wire) → Contains (share_names n) w → IsShareName n w
+share_forward n w h = let r = each_place Share n w h in subst (IsShareName n) r.2 r.1
 
--- the names of gates, the first of which makes value n: of values from n on, as many as there are gates, and shares below N
-abbrev pub IsNamedFrom : ℕ → ℕ → ℕ → Place → Type 0
-IsNamedFrom N n end p = (n ≤ p.0) × (p.0 < end) × IsShareBelow N p.1
+share_backward : (n : ℕ) (w : Wire) → IsShareName n w → Contains (share_names n) w
+share_backward n (Share i) h = Contains-each Share n i h
+share_backward n (Product i j) h = absurd h
+share_backward n (Fresh i j) h = absurd h
+share_backward n (Left i j) h = absurd h
+share_backward n (Right i j) h = absurd h
+share_backward n (Partial i k) h = absurd h
 
-pub names_from-within : (N n : ℕ) (gs : List Gate) → All (IsNamedFrom N n (n + length gs)) (names_from N gs n)
-names_from-within N n [] = All-nil (IsNamedFrom N n (n + 0))
-names_from-within N n (g ∷ gs) =
-    All-append (IsNamedFrom N n (n + length (g ∷ gs))) (map (λ w. (n, w)) (gate_names N g)) (names_from N gs (suc n))
-        (All-map (IsNamedFrom N n (n + length (g ∷ gs))) (λ w. (n, w)) (gate_names N g)
-            (All-weaker (IsShareBelow N) (λ w. IsNamedFrom N n (n + length (g ∷ gs)) (n, w)) (λ w h. (le_refl n, omega arith, h)) (gate_names N g) (gate_names-below N g)))
-        (All-weaker (IsNamedFrom N (suc n) (suc n + length gs)) (IsNamedFrom N n (n + length (g ∷ gs))) (λ p h. (omega arith, omega arith, h.2)) _ (names_from-within N (suc n) gs))
+-- PRODUCTS
 
--- a name that is in the list of the gates' names: either of the first gate, or of a later one
-names_from-cases : (N n : ℕ) (g : Gate) (gs : List Gate) (v : ℕ) (w : Wire) → Contains (names_from N (g ∷ gs) n) (v, w) →
-    ((v ≡ n) × Contains (gate_names N g) w) ⊎ Contains (names_from N gs (suc n)) (v, w)
-names_from-cases N n g gs v w k = ⊎_elim
-    (λ h. inl (All-contains (λ (p : Place). (p.0 ≡ n) × Contains (gate_names N g) p.1) (map (λ w. (n, w)) (gate_names N g)) (v, w)
-        (All-map (λ (p : Place). (p.0 ≡ n) × Contains (gate_names N g) p.1) (λ w. (n, w)) (gate_names N g)
-            (All-weaker (Contains (gate_names N g)) (λ w. (n ≡ n) × Contains (gate_names N g) w) (λ w c. (refl, c)) (gate_names N g) (All-contains_itself (gate_names N g)))) h))
-    (λ h. inr h)
-    (Contains-append_cases (map (λ w. (n, w)) (gate_names N g)) (names_from N gs (suc n)) (v, w) k)
+-- the parts of the list of names: all a_i · b_j ..
+unfoldable pub products : ℕ → List Wire
+products n = joined (λ i. each (Product i) n) n
 
--- probes whose later ones are names of these gates are names at each gate
-AreNamed-from : (N : ℕ) (P : List Place) (gs : List Gate) (n : ℕ) → ((v : ℕ) (w : Wire) → n ≤ v → Contains P (v, w) → Contains (names_from N gs n) (v, w)) → AreNamed N P gs n
-AreNamed-from N P [] n h = tt
-AreNamed-from N P (g ∷ gs) n h = (
-  λ w k. ⊎_elim (λ c. c.1) (λ c. absurd (let later = All-contains (IsNamedFrom N (suc n) (suc n + length gs)) (names_from N gs (suc n)) (n, w) (names_from-within N (suc n) gs) c in omega arith))
-      (names_from-cases N n g gs n w (h n w (le_refl n) k)),
-  AreNamed-from N P gs (suc n) (λ v w m k. ⊎_elim (λ c. absurd (omega arith)) (λ c. c) (names_from-cases N n g gs v w (h v w (omega arith) k))),
-)
+-- .. the three wires of each pair ..
+unfoldable pub of_pair : Pair → List Wire
+of_pair p = Fresh p.0 p.1 ∷ Left p.0 p.1 ∷ Right p.0 p.1 ∷ []
 
--- the names of the inputs
-input_names : ℕ → ℕ → List Place
-input_names N n = joined (λ v. each (λ i. (v, Share i)) N) n
+-- .. and the rows
+unfoldable pub rows : ℕ → List Wire
+rows n = joined (λ i. each (λ m. row_wire n i (other i m)) (pred n)) n
 
-input_names-within : (N n : ℕ) → All (IsNamedFrom N 0 n) (input_names N n)
-unfolding input_names
-input_names-within N n = All-joined (IsNamedFrom N 0 n) (λ v. each (λ i. (v, Share i)) N) n
-    (λ v h. All-each (IsNamedFrom N 0 n) (λ i. (v, Share i)) N (λ i k. (omega arith, h, k)))
+products_forward : (n : ℕ) (w : Wire) → Contains (products n) w → IsProductName n w
+unfolding products
+products_forward n w h =
+    let r = joined_piece (λ i. each (Product i) n) n w h in
+    let c = each_place (Product r.0) n w r.2 in
+    subst (IsProductName n) c.2 (r.1, c.1)
 
--- each name of a circuit is that of a value, and where it is a share one of N
-pub names-within : (c : Netlist) (N : ℕ) → All (IsNamedFrom N 0 (c.inputs + length c.gates)) (names c N)
-unfolding input_names
-names-within c N = All-append (IsNamedFrom N 0 (c.inputs + length c.gates)) (input_names N c.inputs) (names_from N c.gates c.inputs)
-    (All-weaker (IsNamedFrom N 0 c.inputs) (IsNamedFrom N 0 (c.inputs + length c.gates)) (λ p h. (omega arith, omega arith, h.2)) _ (input_names-within N c.inputs))
-    (All-weaker (IsNamedFrom N c.inputs (c.inputs + length c.gates)) (IsNamedFrom N 0 (c.inputs + length c.gates)) (λ p h. (omega arith, h.1, h.2)) _ (names_from-within N c.inputs c.gates))
+pair_wires_forward : (n : ℕ) (w : Wire) → Contains (flat_map of_pair (pairs n)) w → IsProductName n w
+unfolding of_pair
+pair_wires_forward n w h =
+    let r = flat_map_piece of_pair (pairs n) w h in
+    let is : IsPair n r.0.0 r.0.1 = pairs_below n r.0 r.1 in
+    holds_of_three (IsProductName n) (Fresh r.0.0 r.0.1) (Left r.0.0 r.0.1) (Right r.0.0 r.0.1) w is is is r.2
 
--- names of the circuit are names at each gate
-pub AreNamed-from_names : (c : Netlist) (N : ℕ) (P : List Place) → All (Contains (names c N)) P → AreNamed N P c.gates c.inputs
-unfolding input_names
-AreNamed-from_names c N P all = AreNamed-from N P c.gates c.inputs
-    (λ v w m k. ⊎_elim
-        (λ h. absurd (let below = All-contains (IsNamedFrom N 0 c.inputs) (input_names N c.inputs) (v, w) (input_names-within N c.inputs) h in omega arith))
-        (λ h. h)
-        (Contains-append_cases (input_names N c.inputs) (names_from N c.gates c.inputs) (v, w) (All-contains (Contains (names c N)) P (v, w) all k)))
+rows_forward : (n : ℕ) (w : Wire) → Contains (rows n) w → IsProductName n w
+unfolding rows
+rows_forward n w h =
+    let r = joined_piece (λ i. each (λ m. row_wire n i (other i m)) (pred n)) n w h in
+    let i : ℕ = r.0 in
+    let c = each_place (λ m. row_wire n i (other i m)) (pred n) w r.2 in
+    subst (IsProductName n) c.2
+    (row_wire-is (IsProductName n) n i (other i c.0) r.1 (other-below n i c.0 r.1 c.1) (other-apart i c.0) r.1 (λ is. is))
+
+product_forward : (n : ℕ) (w : Wire) → Contains (product_names n) w → IsProductName n w
+unfolding products of_pair rows
+product_forward n w h =
+    elim (Contains-append_cases (products n ++ flat_map of_pair (pairs n)) (rows n) w h) [
+      inl front ↦ elim (Contains-append_cases (products n) (flat_map of_pair (pairs n)) w front) [
+        inl in_products ↦ products_forward n w in_products
+        | inr in_pairs ↦ pair_wires_forward n w in_pairs
+      ]
+      | inr in_rows ↦ rows_forward n w in_rows
+    ]
+
+product_at : (n : ℕ) (w : Wire) → Contains (products n) w → Contains (product_names n) w
+unfolding products of_pair rows
+product_at n w h =
+    Contains-append_left (products n ++ flat_map of_pair (pairs n)) (rows n) w (Contains-append_left (products n) (flat_map of_pair (pairs n)) w h)
+
+pair_wire_at : (n i j : ℕ) (w : Wire) → IsPair n i j → Contains (of_pair (i, j)) w → Contains (product_names n) w
+unfolding products of_pair rows
+pair_wire_at n i j w is h =
+    Contains-append_left (products n ++ flat_map of_pair (pairs n)) (rows n) w
+    (Contains-append_right (products n) (flat_map of_pair (pairs n)) w (Contains-flat_map of_pair (pairs n) (i, j) w (Contains-pairs n i j is) h))
+
+row_at : (n i k : ℕ) → i < n → k < n → i ≢ k → Contains (product_names n) (row_wire n i k)
+unfolding products of_pair rows
+row_at n i k hi hk ne =
+    let m = other_at n i k hi hk ne in
+    Contains-append_right (products n ++ flat_map of_pair (pairs n)) (rows n) (row_wire n i k)
+    (Contains-joined (λ i. each (λ m. row_wire n i (other i m)) (pred n)) n i (row_wire n i k) hi
+    (subst (λ (c : ℕ). Contains (each (λ m. row_wire n i (other i m)) (pred n)) (row_wire n i c)) m.2
+    (Contains-each (λ m. row_wire n i (other i m)) (pred n) m.0 m.1)))
+
+product_backward : (n : ℕ) (w : Wire) → 2 ≤ n → IsProductName n w → Contains (product_names n) w
+unfolding products of_pair
+product_backward n (Share i) two h =
+    let k = has_last n i two h in subst (Contains (product_names n)) (row_wire-last n i k.0 k.3) (row_at n i k.0 h k.1 k.2)
+product_backward n (Product i j) two h = product_at n (Product i j)
+    (Contains-joined (λ i. each (Product i) n) n i (Product i j) h.0 (Contains-each (Product i) n j h.1))
+product_backward n (Fresh i j) two h = pair_wire_at n i j (Fresh i j) h (first_of_three (Fresh i j) (Left i j) (Right i j))
+product_backward n (Left i j) two h = pair_wire_at n i j (Left i j) h (second_of_three (Fresh i j) (Left i j) (Right i j))
+product_backward n (Right i j) two h = pair_wire_at n i j (Right i j) h (third_of_three (Fresh i j) (Left i j) (Right i j))
+product_backward n (Partial i k) two h =
+    subst (Contains (product_names n)) (row_wire-inner n i k h.3) (row_at n i k h.0 h.1 h.2)
+
+-- REFRESHES
+
+-- the three wires of each pair
+unfoldable pub updates : ℕ → Pair → List Wire
+updates n p = Fresh p.0 p.1 ∷ row_wire n p.0 p.1 ∷ row_wire n p.1 p.0 ∷ []
+
+refresh_forward : (n : ℕ) (w : Wire) → Contains (refresh_names n) w → IsRefreshName n w
+unfolding updates
+refresh_forward n w h =
+    let r = flat_map_piece (updates n) (pairs n) w h in
+    let i : ℕ = r.0.0 in
+    let j : ℕ = r.0.1 in
+    let is : IsPair n i j = pairs_below n r.0 r.1 in
+    let low : i < n = omega (arith, is.0, is.1) in
+    let apart : i ≢ j = omega (arith, is.0) in
+    let apart' : j ≢ i = omega (arith, is.0) in
+    holds_of_three (IsRefreshName n) (Fresh i j) (row_wire n i j) (row_wire n j i) w is
+    (row_wire-is (IsRefreshName n) n i j low is.1 apart low (λ inner. inner))
+    (row_wire-is (IsRefreshName n) n j i is.1 low apart' is.1 (λ inner. inner)) r.2
+
+update_at : (n i j : ℕ) (w : Wire) → IsPair n i j → Contains (updates n (i, j)) w → Contains (refresh_names n) w
+unfolding updates
+update_at n i j w is h = Contains-flat_map (updates n) (pairs n) (i, j) w (Contains-pairs n i j is) h
+
+update_of : (n i k : ℕ) → i < n → k < n → i ≢ k → Contains (refresh_names n) (row_wire n i k)
+unfolding updates
+update_of n i k hi hk ne =
+    elim (cases_lt i k) [
+      inl l ↦ update_at n i k (row_wire n i k) (l, hk) (second_of_three (Fresh i k) (row_wire n i k) (row_wire n k i))
+      | inr g ↦ update_at n k i (row_wire n i k) (omega arith, hi) (third_of_three (Fresh k i) (row_wire n k i) (row_wire n i k))
+    ]
+
+refresh_backward : (n : ℕ) (w : Wire) → 2 ≤ n → IsRefreshName n w → Contains (refresh_names n) w
+unfolding updates
+refresh_backward n (Share i) two h =
+    let k = has_last n i two h in subst (Contains (refresh_names n)) (row_wire-last n i k.0 k.3) (update_of n i k.0 h k.1 k.2)
+refresh_backward n (Product i j) two h = absurd h
+refresh_backward n (Fresh i j) two h = update_at n i j (Fresh i j) h (first_of_three (Fresh i j) (row_wire n i j) (row_wire n j i))
+refresh_backward n (Left i j) two h = absurd h
+refresh_backward n (Right i j) two h = absurd h
+refresh_backward n (Partial i k) two h =
+    subst (Contains (refresh_names n)) (row_wire-inner n i k h.3) (update_of n i k h.0 h.1 h.2)
+
+-- ALL GATES
+
+pub gate_names-by_shape : GateHasNames
+gate_names-by_shape N Zero w two = (share_forward N w, share_backward N w)
+gate_names-by_shape N One w two = (share_forward N w, share_backward N w)
+gate_names-by_shape N (Xor u v) w two = (share_forward N w, share_backward N w)
+gate_names-by_shape N (Not u) w two = (share_forward N w, share_backward N w)
+gate_names-by_shape N (And u v) w two = (product_forward N w, product_backward N w two)
+gate_names-by_shape N (Ref u) w two = (refresh_forward N w, refresh_backward N w two)

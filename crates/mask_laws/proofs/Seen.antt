@@ -16,7 +16,7 @@ use Rattle.mask_laws.proofs.Tapes.{sum_over_tapes-same}
 use Rattle.mask_laws.proofs.Probes.{probed_shares-from_Contains, need_from-probed, Contains-head, Contains-tail}
 use Rattle.mask_laws.proofs.Shifts.{sum_over_tapes-shift_from, length-shift_from, shift_from-back}
 use Rattle.mask_laws.proofs.Keeping.{TracesAgree, keeps_from}
-use Rattle.mask_laws.proofs.Names.{IsShareBelow, IsNamedFrom, names-within, AreNamed-from_names}
+use Rattle.mask_laws.proofs.CircuitNames.{IsShareBelow, IsNamedFrom, names-within, AreNamed-from_names}
 
 -- the shift by the names of probes
 abbrev pub shift_by : Netlist → ℕ → (ℕ → Shares Bool) → (ℕ → Shares Bool) → List Place → List Bool → List Bool

@@ -4,6 +4,7 @@
 #![tactic(auto)]
 
 mod bridges;
+pub mod gadgets;
 
 pub use bridges::{
     clash_decides, clash_is_unique, clash_refutes, outputs_unmask, table_reaches, tidy_accepted,

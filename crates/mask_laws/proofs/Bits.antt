@@ -1,0 +1,61 @@
+-- The sum of two bits, and what a test says.
+use Rattle.std.proofs.Common.{◌≡◌, Bool, true, false, not, ◌&&◌, refl}
+use Rattle.mask_circuit.specs.Value.{xor}
+
+pub xor-false : (a : Bool) → xor a false ≡ a
+xor-false true = refl
+xor-false false = refl
+
+pub xor_self : (a : Bool) → xor a a ≡ false
+xor_self true = refl
+xor_self false = refl
+
+pub xor_comm : (a b : Bool) → xor a b ≡ xor b a
+xor_comm true true = refl
+xor_comm true false = refl
+xor_comm false true = refl
+xor_comm false false = refl
+
+pub xor_assoc : (a b c : Bool) → xor (xor a b) c ≡ xor a (xor b c)
+xor_assoc false b c = refl
+xor_assoc true false c = refl
+xor_assoc true true false = refl
+xor_assoc true true true = refl
+
+-- the sum of two sums, term by term
+pub xor-xor : (a b c d : Bool) → xor (xor a b) (xor c d) ≡ xor (xor a c) (xor b d)
+xor-xor false b false d = refl
+xor-xor false false true d = refl
+xor-xor false true true false = refl
+xor-xor false true true true = refl
+xor-xor true false false d = refl
+xor-xor true false true false = refl
+xor-xor true false true true = refl
+xor-xor true true false false = refl
+xor-xor true true false true = refl
+xor-xor true true true false = refl
+xor-xor true true true true = refl
+
+-- a bit plus its difference from another is the other
+pub xor-change : (a b : Bool) → b ≡ xor a (xor a b)
+xor-change true true = refl
+xor-change true false = refl
+xor-change false b = refl
+
+-- a bit plus no change
+pub same_under_no_change : (a b c : Bool) → b ≡ xor a c → c ≡ false → a ≡ b
+same_under_no_change true b true e none = cc
+same_under_no_change true b false e none = cc
+same_under_no_change false b true e none = cc
+same_under_no_change false b false e none = cc
+
+-- two equal bits differ by nothing
+pub xor_same : (a b : Bool) → a ≡ b → xor a b ≡ false
+xor_same true true e = refl
+xor_same true false e = cc
+xor_same false true e = cc
+xor_same false false e = refl
+
+pub and-true : (a : Bool) → (a && true) ≡ a
+and-true true = refl
+and-true false = refl

@@ -1,0 +1,133 @@
+-- The local numbers of a gate's wires.
+use Rattle.std.proofs.Common.{◌≡◌, ℕ, zero, suc, pred, ◌+◌, ◌-◌, ◌*◌, ◌/◌, ◌<◌, ◌≤◌, List, [], ◌∷◌, ◌++◌, length, flat_map, slice_get, Some, refl, sym, ap, ◌∙◌, subst, arith, length-append}
+use Rattle.mask_circuit.specs.Wires.{Wire, Share, Product, Fresh, Left, Right, Partial, Pair, each, joined, row_pairs, pairs, other, row_wire, share_names, product_names, refresh_names}
+use Rattle.mask_laws.specs.Names.{IsPair, pairs_before, pair_number, pair_count, PairsInOrder, ProductInOrder, RefreshInOrder, SharesInOrder, NamesInOrder}
+use Rattle.mask_laws.proofs.Names.{products, of_pair, rows, updates}
+use Rattle.mask_laws.proofs.Places.{slice_get-append_front, slice_get-append_back, back_at, length-each, slice_get-each, slice_get-joined, length-joined, slice_get-threes, length-threes}
+
+-- PAIRS
+
+length-rows_before : (n i : ℕ) → length (joined (row_pairs n) i) ≡ pairs_before n i
+length-rows_before n zero = refl
+length-rows_before n (suc i) =
+    let up = length-rows_before n i in
+    omega (arith, length-append (joined (row_pairs n) i) (row_pairs n i), length-each {A = Pair} (λ (m : ℕ). (i, suc i + m)) (n - suc i))
+
+-- twice the sum of n - 1, n - 2, .., n - i
+twice_before : (n i : ℕ) → i ≤ n → 2 * pairs_before n i + i * suc i ≡ 2 * (i * n)
+twice_before n zero le = omega arith
+twice_before n (suc i) le = let up = twice_before n i (omega arith) in omega arith
+
+half : (a b : ℕ) → 2 * a ≡ b → a ≡ b / 2
+half a b e = omega arith
+
+count_is : (n : ℕ) → pairs_before n n ≡ pair_count n
+count_is zero = refl
+count_is (suc n) =
+    let twice = twice_before (suc n) (suc n) (omega arith) in
+    let one_less : suc n - 1 ≡ n = omega arith in
+    half (pairs_before (suc n) (suc n)) (suc n * (suc n - 1)) (rw one_less (omega arith))
+
+length-pairs : (n : ℕ) → length (pairs n) ≡ pair_count n
+length-pairs n = length-rows_before n n ∙ count_is n
+
+pair_at : (n i j : ℕ) → IsPair n i j → slice_get (pairs n) (pair_number n i j) ≡ Some (i, j)
+pair_at n i j is =
+    let m : ℕ = j - suc i in
+    let second : suc i + m ≡ j = omega (arith, is.0) in
+    let in_row : slice_get (row_pairs n i) m ≡ Some (i, j) =
+        subst (λ (k : ℕ). slice_get (row_pairs n i) m ≡ Some (i, k)) second (slice_get-each {A = Pair} (λ (k : ℕ). (i, suc i + k)) (n - suc i) m (omega (arith, is.0, is.1))) in
+    rw (← (length-rows_before n i)) (slice_get-joined (row_pairs n) n i m (i, j) (omega (arith, is.0, is.1)) in_row)
+
+pub pairs_in_order : (n : ℕ) → PairsInOrder n
+pairs_in_order n = record { pair = pair_at n; length = length-pairs n }
+
+-- SHARES
+
+pub shares_in_order : (n : ℕ) → SharesInOrder n
+shares_in_order n = record { share = slice_get-each Share n; length = length-each Share n }
+
+-- PRODUCTS
+
+length-products : (n : ℕ) → length (products n) ≡ n * n
+unfolding products
+length-products n = length-joined (λ i. each (Product i) n) n n (λ i. length-each (Product i) n)
+
+product_at : (n i j : ℕ) → i < n → j < n → slice_get (products n) (i * n + j) ≡ Some (Product i j)
+unfolding products
+product_at n i j hi hj =
+    rw (← (length-joined (λ k. each (Product k) n) n i (λ k. length-each (Product k) n)))
+    (slice_get-joined (λ k. each (Product k) n) n i j (Product i j) hi (slice_get-each (Product i) n j hj))
+
+length-pair_wires : (n : ℕ) → length (flat_map of_pair (pairs n)) ≡ 3 * pair_count n
+unfolding of_pair
+length-pair_wires n = rw (length-threes of_pair (pairs n) (λ q. refl), length-pairs n) refl
+
+pair_wire_at : (n i j t : ℕ) (w : Wire) → IsPair n i j → slice_get (of_pair (i, j)) t ≡ Some w → slice_get (flat_map of_pair (pairs n)) (3 * pair_number n i j + t) ≡ Some w
+unfolding of_pair
+pair_wire_at n i j t w is h = slice_get-threes of_pair (pairs n) (pair_number n i j) t (i, j) w (λ q. refl) (pair_at n i j is) h
+
+length-row : (n i : ℕ) → length (each (λ m. row_wire n i (other i m)) (pred n)) ≡ n - 1
+length-row n i = length-each (λ m. row_wire n i (other i m)) (pred n) ∙ omega arith
+
+length-rows : (n : ℕ) → length (rows n) ≡ n * (n - 1)
+unfolding rows
+length-rows n = length-joined (λ i. each (λ m. row_wire n i (other i m)) (pred n)) (n - 1) n (length-row n)
+
+row_at : (n i m : ℕ) → i < n → m < n - 1 → slice_get (rows n) (i * (n - 1) + m) ≡ Some (row_wire n i (other i m))
+unfolding rows
+row_at n i m hi hm =
+    rw (← (length-joined (λ k. each (λ c. row_wire n k (other k c)) (pred n)) (n - 1) i (length-row n)))
+    (slice_get-joined (λ k. each (λ c. row_wire n k (other k c)) (pred n)) n i m (row_wire n i (other i m)) hi
+    (slice_get-each (λ c. row_wire n i (other i c)) (pred n) m (omega arith)))
+
+-- a wire of the pair (i, j) in the whole list
+product_pair_at : (n i j t k : ℕ) (w : Wire) → k ≡ n * n + (3 * pair_number n i j + t) → IsPair n i j → slice_get (of_pair (i, j)) t ≡ Some w → slice_get (product_names n) k ≡ Some w
+unfolding products of_pair rows
+product_pair_at n i j t k w e is h =
+    slice_get-append_front (products n ++ flat_map of_pair (pairs n)) (rows n) k w
+    (back_at (products n) (flat_map of_pair (pairs n)) (3 * pair_number n i j + t) k w (rw (length-products n) e) (pair_wire_at n i j t w is h))
+
+product_row_at : (n i m : ℕ) → i < n → m < n - 1 → slice_get (product_names n) (n * n + 3 * pair_count n + i * (n - 1) + m) ≡ Some (row_wire n i (other i m))
+unfolding products of_pair rows
+product_row_at n i m hi hm =
+    let front : length (products n ++ flat_map of_pair (pairs n)) ≡ n * n + 3 * pair_count n =
+        omega (arith, length-append (products n) (flat_map of_pair (pairs n)), length-products n, length-pair_wires n) in
+    back_at (products n ++ flat_map of_pair (pairs n)) (rows n) (i * (n - 1) + m) _ _ (rw front (omega arith)) (row_at n i m hi hm)
+
+length-product_names : (n : ℕ) → length (product_names n) ≡ n * n + 3 * pair_count n + n * (n - 1)
+unfolding products of_pair rows
+length-product_names n =
+    let front = length-append (products n ++ flat_map of_pair (pairs n)) (rows n) in
+    let middle = length-append (products n) (flat_map of_pair (pairs n)) in
+    rw (front, middle, length-products n, length-pair_wires n, length-rows n) refl
+
+pub product_in_order : (n : ℕ) → ProductInOrder n
+unfolding products of_pair rows
+product_in_order n = record {
+  product = λ i j hi hj. slice_get-append_front (products n ++ flat_map of_pair (pairs n)) (rows n) (i * n + j) (Product i j)
+      (slice_get-append_front (products n) (flat_map of_pair (pairs n)) (i * n + j) (Product i j) (product_at n i j hi hj));
+  fresh = λ i j is. product_pair_at n i j 0 _ (Fresh i j) (omega arith) is refl;
+  left = λ i j is. product_pair_at n i j 1 _ (Left i j) (omega arith) is refl;
+  right = λ i j is. product_pair_at n i j 2 _ (Right i j) (omega arith) is refl;
+  row = product_row_at n;
+  length = length-product_names n;
+}
+
+-- REFRESHES
+
+update_at : (n i j t : ℕ) (w : Wire) → IsPair n i j → slice_get (updates n (i, j)) t ≡ Some w → slice_get (refresh_names n) (3 * pair_number n i j + t) ≡ Some w
+unfolding updates
+update_at n i j t w is h = slice_get-threes (updates n) (pairs n) (pair_number n i j) t (i, j) w (λ q. refl) (pair_at n i j is) h
+
+pub refresh_in_order : (n : ℕ) → RefreshInOrder n
+unfolding updates
+refresh_in_order n = record {
+  fresh = λ i j is. (let at : 3 * pair_number n i j + 0 ≡ 3 * pair_number n i j = omega arith in rw at at (update_at n i j 0 (Fresh i j) is refl));
+  lower = λ i j is. update_at n i j 1 (row_wire n i j) is refl;
+  higher = λ i j is. update_at n i j 2 (row_wire n j i) is refl;
+  length = rw (length-threes (updates n) (pairs n) (λ q. refl), length-pairs n) refl;
+}
+
+pub names_in_order : (n : ℕ) → NamesInOrder n
+names_in_order n = record { pairs = pairs_in_order n; shares = shares_in_order n; product = product_in_order n; refresh = refresh_in_order n }

@@ -1,0 +1,26 @@
+//! What is proved of a single gate: which wires it has, what is kept where it is watched, and how little it demands.
+ghost use Rattle.mask_laws.specs.Names.{AllNamesInOrder, GateHasNames};
+ghost use Rattle.mask_laws.specs.Needs.{NeedsAreSmall};
+
+/// Which wires a gate has, for two shares or more. A product has each `a_i · b_j`; for each pair `i < j` the fresh bit
+/// `r_ij`, then `v_ij = r_ij + a_i · b_j` and `r_ji = v_ij + a_j · b_i`; and for each row its partial sums, of which the
+/// last is an output share. A refresh has the fresh bit of each pair and each share after each of its updates. Every
+/// other gate has its output shares alone.
+pub fn gates_have_names()
+    ensures { GateHasNames }
+{
+}
+
+/// The local number of each wire of a gate: its place in the gate's list of names. With `w = n · (n - 1) / 2` pairs of
+/// `n` shares, a product has `n² + 3w + n(n - 1)` wires and a refresh `3w`.
+pub fn names_stand_in_order()
+    ensures { AllNamesInOrder }
+{
+}
+
+/// Inner probes on a product demand no more shares of either operand than there are probes, and those on a refresh no
+/// more shares of its operand: each probe adds one share at most.
+pub fn probes_demand_few_shares()
+    ensures { NeedsAreSmall }
+{
+}
