@@ -4,26 +4,7 @@ use Rattle.mask_circuit.specs.Value.{xor}
 use Rattle.mask_circuit.specs.Ring.{bits}
 use Rattle.mask_circuit.specs.Wires.{each, row_sum}
 use Rattle.mask_laws.specs.Sharing.{xor_all}
-
-pub xor_false : (a : Bool) → xor a false ≡ a
-xor_false true = refl
-xor_false false = refl
-
-pub xor_self : (a : Bool) → xor a a ≡ false
-xor_self true = refl
-xor_self false = refl
-
-pub xor_comm : (a b : Bool) → xor a b ≡ xor b a
-xor_comm true true = refl
-xor_comm true false = refl
-xor_comm false true = refl
-xor_comm false false = refl
-
-pub xor_assoc : (a b c : Bool) → xor (xor a b) c ≡ xor a (xor b c)
-xor_assoc false b c = refl
-xor_assoc true true true = refl
-xor_assoc true true false = refl
-xor_assoc true false c = refl
+use Rattle.mask_laws.proofs.Bits.{xor-false, xor_self, xor_comm, xor_assoc}
 
 -- with `xor_comm` and `xor_assoc` it sorts sums
 pub xor_left_comm : (a b c : Bool) → xor a (xor b c) ≡ xor b (xor a c)
@@ -36,10 +17,6 @@ xor_cancel false b = refl
 xor_cancel true true = refl
 xor_cancel true false = refl
 
-pub and_xor : (a b c : Bool) → (a && xor b c) ≡ xor (a && b) (a && c)
-and_xor true b c = refl
-and_xor false b c = refl
-
 pub xor_and : (a b c : Bool) → (xor a b && c) ≡ xor (a && c) (b && c)
 xor_and true true true = refl
 xor_and true true false = refl
@@ -48,7 +25,7 @@ xor_and true false false = refl
 xor_and false b c = refl
 
 -- the laws that sort a sum
-pub ruleset sums = (xor_false, xor_self, xor_comm, xor_assoc, xor_left_comm, xor_cancel)
+pub ruleset sums = (xor-false, xor_self, xor_comm, xor_assoc, xor_left_comm, xor_cancel)
 
 -- the sum f 0 + .. + f (n - 1)
 abbrev pub total : (ℕ → Bool) → ℕ → Bool
@@ -61,7 +38,7 @@ xor_all-append (x ∷ xs) ys = ap (xor x) (xor_all-append xs ys) ∙ sym (xor_as
 
 pub xor_all-each : (f : ℕ → Bool) (n : ℕ) → xor_all (each f n) ≡ total f n
 xor_all-each f zero = refl
-xor_all-each f (suc n) = xor_all-append (each f n) (f n ∷ []) ∙ ap₂ xor (xor_all-each f n) (xor_false (f n))
+xor_all-each f (suc n) = xor_all-append (each f n) (f n ∷ []) ∙ ap₂ xor (xor_all-each f n) (xor-false (f n))
 
 -- the sum of sums is the sum of the terms' sums
 pub total-xor : (f g : ℕ → Bool) (n : ℕ) → total (λ i. xor (f i) (g i)) n ≡ xor (total f n) (total g n)
@@ -88,14 +65,14 @@ total-and_right a f (suc n) = rw (total-and_right a f n) (sym (xor_and (total f 
 
 -- the first column of a row
 row_start : (b first t : Bool) → cond b first (xor first t) ≡ xor first (xor false (cond b false t))
-row_start true first t = sym (xor_false first)
+row_start true first t = sym (xor-false first)
 row_start false first t = refl
 
 -- one more row and column of a square
 corner : (s t a b : Bool) → xor (s && t) (xor (xor (s && b) (a && t)) (a && b)) ≡ (xor s a && xor t b)
 corner false t false b = refl
 corner false t true b = refl
-corner true t false b = simp xor_false
+corner true t false b = simp xor-false
 corner true t true b = simp sums
 
 grow : (s t a b d o p q : Bool) → xor d o ≡ (s && t) → xor p q ≡ xor (s && b) (a && t) → xor (xor d (a && b)) (xor (xor o p) q) ≡ (xor s a && xor t b)
@@ -105,7 +82,7 @@ grow s t a b d o p q old border =
 
 -- one more column of a row
 row_step : (b first t s : Bool) → cond b (xor first s) (xor (xor first s) t) ≡ xor first (xor s (cond b false t))
-row_step true first t s = ap (xor first) (sym (xor_false s))
+row_step true first t s = ap (xor first) (sym (xor-false s))
 row_step false first t s = xor_assoc first s t
 
 -- A row up to column k: the first bit, and each term but that of column i.
@@ -130,7 +107,7 @@ square entry a b diagonal pair (suc n) =
     in
     let rows : xor (total (λ i. total (entry i) (suc n)) n) (total (entry n) (suc n))
     ≡ xor (xor (total (λ i. total (entry i) n) n) (total (λ i. entry i n) n)) (total (entry n) n) =
-    ap₂ xor (total-xor (λ i. total (entry i) n) (λ i. entry i n) n) (ap (xor (total (entry n) n)) (diagonal n) ∙ xor_false _)
+    ap₂ xor (total-xor (λ i. total (entry i) n) (λ i. entry i n) n) (ap (xor (total (entry n) n)) (diagonal n) ∙ xor-false _)
     in
     ap (xor (xor (total (λ i. a i && b i) n) (a n && b n))) rows
     ∙ grow (total a n) (total b n) (a n) (b n) (total (λ i. a i && b i) n) (total (λ i. total (entry i) n) n)

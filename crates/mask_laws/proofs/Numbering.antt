@@ -1,19 +1,20 @@
 -- The wires of a circuit by number and by name.
-use Rattle.std.proofs.Common.{◌≡◌, ℕ, zero, suc, ◌+◌, ◌-◌, ◌<◌, ◌≤◌, ◌⊎◌, inl, inr, Bool, true, false, cond, ◌&&◌, ◌==◌, nat_lt, List, [], ◌∷◌, ◌++◌, map, length, slice_get, slice_index_or, Contains, Some, None, refl, ap, ap₂, sym, ◌∙◌, subst, arith, append_assoc, append-nil, length-append}
+use Rattle.std.proofs.Common.{◌≡◌, ℕ, zero, suc, ◌+◌, ◌<◌, ◌≤◌, Bool, true, false, cond, ◌&&◌, ◌==◌, List, [], ◌∷◌, ◌++◌, map, length, slice_get, Contains, Some, None, refl, ap, ap₂, sym, ◌∙◌, arith, append_assoc, append-nil, length-append}
 use Rattle.std.specs.declared.option.Option.{Option}
 use Rattle.std.specs.Option.{option_map}
-use Rattle.std.proofs.lemmas.Bool.{lt-ltb, le-ltb, cases_lt, cases_order, eq-eqb, eqb-true, and_parts, and_from, true≢false}
+use Rattle.std.proofs.lemmas.Bool.{eq-eqb, eqb-true, and_parts, and_from, true≢false}
 use Rattle.std.proofs.lemmas.List.{map-append, length-map}
-use Rattle.std.proofs.lemmas.List.Elements.{Contains-get_or}
-use Rattle.std.proofs.lemmas.Option.{none-some, same_Some, slice_get-map, slice_get-get_or, slice_get_within}
+use Rattle.std.proofs.lemmas.Option.{none-some, same_Some, slice_get-map, slice_get-get_or}
 use Rattle.mask_circuit.specs.declared.gates.Gate.{Gate}
 use Rattle.mask_circuit.specs.declared.gates.Gate.TheVariants.{Zero, One, Xor, Not, And, Ref}
 use Rattle.mask_circuit.specs.Netlist.{Netlist, value_count}
-use Rattle.mask_circuit.specs.Wires.{Wire, Share, Product, Fresh, Left, Right, Partial, each, joined, share_names, gate_names}
-use Rattle.mask_circuit.specs.Expansion.{Place, names, names_from, wire_count}
-use Rattle.mask_circuit.specs.Probing.{same_wire, places_before, share_place}
+use Rattle.mask_circuit.specs.Wires.{Wire, Share, Product, Fresh, Left, Right, Partial, each, joined, gate_names}
+use Rattle.mask_circuit.specs.Expansion.{Place, names, names_from}
+use Rattle.mask_circuit.specs.Probing.{same_wire, places_before}
 use Rattle.mask_circuit.specs.Acceptance.{gate_at}
 use Rattle.mask_laws.specs.Numbering.{names_by, names_of, wires_before, WiresInOrder, WiresAreCounted, SharesHavePlaces}
+use Rattle.mask_laws.proofs.Names.{gate_names-by_shape}
+use Rattle.mask_laws.proofs.Places.{slice_get-joined}
 use Rattle.mask_laws.proofs.Gates.{gate_at_input, Make, Make_all, Make_first, Make_rest}
 
 -- LISTS
@@ -25,28 +26,6 @@ map-each f g (suc n) = map-append f (each g n) (g n ∷ []) ∙ ap (λ xs. xs ++
 joined_same : {A : Type 0} (f g : ℕ → List A) (n : ℕ) → ((i : ℕ) → i < n → f i ≡ g i) → joined f n ≡ joined g n
 joined_same f g zero h = refl
 joined_same f g (suc n) h = ap₂ (λ xs ys. xs ++ ys) (joined_same f g n (λ i l. h i (omega arith))) (h n (omega arith))
-
-slice_get-append_left : {A : Type 0} (xs ys : List A) (k : ℕ) (a : A) → slice_get xs k ≡ Some a → slice_get (xs ++ ys) k ≡ Some a
-slice_get-append_left [] ys k a e = absurd (none-some a e)
-slice_get-append_left (x ∷ xs) ys zero a e = e
-slice_get-append_left (x ∷ xs) ys (suc k) a e = slice_get-append_left xs ys k a e
-
-slice_get-append_right : {A : Type 0} (xs ys : List A) (k : ℕ) → slice_get (xs ++ ys) (length xs + k) ≡ slice_get ys k
-slice_get-append_right [] ys k = let e : 0 + k ≡ k = omega arith in ap (slice_get ys) e
-slice_get-append_right (x ∷ xs) ys k =
-    let e : suc (length xs) + k ≡ suc (length xs + k) = omega arith in ap (slice_get (x ∷ (xs ++ ys))) e ∙ slice_get-append_right xs ys k
-
--- element k of piece v stands k after all earlier pieces
-slice_get-joined : {A : Type 0} (f : ℕ → List A) (n v k : ℕ) (a : A) → v < n → slice_get (f v) k ≡ Some a → slice_get (joined f n) (length (joined f v) + k) ≡ Some a
-slice_get-joined f zero v k a lt e = absurd (omega arith)
-slice_get-joined f (suc n) v k a lt e = go (cases_order v n) (λ l. slice_get-joined f n v k a l e)
-  where
-    go : (v ≡ n) ⊎ ((v < n) ⊎ (n < v)) → (v < n → slice_get (joined f n) (length (joined f v) + k) ≡ Some a) →
-        slice_get (joined f n ++ f n) (length (joined f v) + k) ≡ Some a
-    go (inl same) up = subst (λ (m : ℕ). slice_get (joined f m ++ f m) (length (joined f v) + k) ≡ Some a) same
-        (slice_get-append_right (joined f v) (f v) k ∙ e)
-    go (inr (inl l)) up = slice_get-append_left (joined f n) (f n) _ a (up l)
-    go (inr (inr g)) up = absurd (omega arith)
 
 -- the first element that passes, where one alone can
 slice_get-places_before : {A : Type 0} (test : A → Bool) (xs : List A) (k : ℕ) (a : A) → slice_get xs k ≡ Some a → test a ≡ true →
@@ -99,7 +78,7 @@ wires_in_order c N v k w lt e =
     ap (λ xs. slice_get xs (wires_before c N v + k)) (names_joined c N)
     ∙ ap (λ m. slice_get (joined (named c N) (value_count c)) (m + k)) (sym (length-named c N v))
     ∙ slice_get-joined (named c N) (value_count c) v k (v, w) lt
-      (slice_get-map (λ w. (v, w)) (names_of c N v) k ∙ ap (option_map (λ w. (v, w))) e)
+    (slice_get-map (λ w. (v, w)) (names_of c N v) k ∙ ap (option_map (λ w. (v, w))) e)
 
 -- SHARES
 
@@ -125,19 +104,21 @@ is_share_of-same : (u i : ℕ) → is_share_of u i (u, Share i) ≡ true
 is_share_of-same u i = and_from (u == u) (i == i) (eq-eqb u u refl) (eq-eqb i i refl)
 
 -- each gate has its output shares among its wires
-abbrev pub GatesHaveShares : Type 0
-GatesHaveShares = (N : ℕ) (g : Gate) (i : ℕ) → 2 ≤ N → i < N → Contains (gate_names N g) (Share i)
+gate_share : (N : ℕ) (g : Gate) (i : ℕ) → 2 ≤ N → i < N → Contains (gate_names N g) (Share i)
+gate_share N Zero i two lt = (gate_names-by_shape N Zero (Share i) two).1 lt
+gate_share N One i two lt = (gate_names-by_shape N One (Share i) two).1 lt
+gate_share N (Xor u v) i two lt = (gate_names-by_shape N (Xor u v) (Share i) two).1 lt
+gate_share N (Not u) i two lt = (gate_names-by_shape N (Not u) (Share i) two).1 lt
+gate_share N (And u v) i two lt = (gate_names-by_shape N (And u v) (Share i) two).1 lt
+gate_share N (Ref u) i two lt = (gate_names-by_shape N (Ref u) (Share i) two).1 lt
 
-value_share : GatesHaveShares → (c : Netlist) (N u i : ℕ) → 2 ≤ N → i < N → Contains (names_of c N u) (Share i)
-value_share has c N u i two lt = go (gate_at c u)
-  where
-    go : (o : Option Gate) → Contains (names_by N o) (Share i)
-    go None = has N Zero i two lt
-    go (Some g) = has N g i two lt
+value_share : (N : ℕ) (o : Option Gate) (i : ℕ) → 2 ≤ N → i < N → Contains (names_by N o) (Share i)
+value_share N None i two lt = gate_share N Zero i two lt
+value_share N (Some g) i two lt = gate_share N g i two lt
 
-pub share_at : GatesHaveShares → SharesHavePlaces
-share_at has c N u i two within lt =
-    let k = value_share has c N u i two lt in
+pub shares_have_places : SharesHavePlaces
+shares_have_places c N u i two within lt =
+    let k = value_share N (gate_at c u) i two lt in
     let at : slice_get (names_of c N u) k.0 ≡ Some (Share i) = slice_get-get_or (names_of c N u) k.0 (Share i) k.1 ∙ ap Some k.2 in
     slice_get-places_before (is_share_of u i) (names c N) (wires_before c N u + k.0) (u, Share i)
     (wires_in_order c N u k.0 (Share i) within at) (is_share_of-same u i) (is_share_of-true u i)

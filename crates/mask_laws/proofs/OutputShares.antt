@@ -1,17 +1,17 @@
 -- The shares of a circuit's outputs that an observer asks for beside the inner wires.
-use Rattle.std.proofs.Common.{◌≡◌, ℕ, zero, suc, ◌+◌, ◌-◌, ◌<◌, ◌≤◌, ◌⊎◌, inl, inr, Bool, true, false, cond, not, ◌&&◌, ◌||◌, ◌==◌, List, [], ◌∷◌, ◌++◌, map, length, slice_get, slice_index, slice_index_or, All, Contains, Some, None, refl, ap, ap₂, sym, ◌∙◌, subst, arith}
-use Rattle.std.specs.List.{filter, list_any}
-use Rattle.std.proofs.lemmas.Bool.{cases_order, or_cases, eq-eqb, eqb-true, and_parts, and_from, true≢false, and_right}
+use Rattle.std.proofs.Common.{◌≡◌, ℕ, zero, suc, ◌+◌, ◌<◌, ◌≤◌, ◌⊎◌, inl, inr, Bool, true, false, ◌&&◌, ◌==◌, List, [], ◌∷◌, ◌++◌, map, length, slice_index, slice_index_or, All, Contains, refl, ap, ap₂, sym, ◌∙◌, subst, arith}
+use Rattle.std.specs.List.{filter}
+use Rattle.std.proofs.lemmas.Bool.{cases_order, or_cases, eqb-true, and_parts, true≢false, and_right}
 use Rattle.std.proofs.lemmas.List.{map-append}
-use Rattle.std.proofs.lemmas.List.Elements.{filter-append, All-cons, All-head, All-tail, All-filter, filter_passes, All-contains, All-append, All-map, All-weaker, Contains-append_left, Contains-append_right}
+use Rattle.std.proofs.lemmas.List.Elements.{filter-append, All-head, All-tail, All-filter, filter_passes, All-append, All-map, All-weaker, Contains-append_left, Contains-append_right}
 use Rattle.std.proofs.lemmas.List.Folds.{list_any-append}
 use Rattle.std.proofs.lemmas.Option.{get_or_from_slice_get, slice_get_within}
 use Rattle.mask_circuit.specs.Netlist.{Netlist, value_count}
-use Rattle.mask_circuit.specs.Wires.{Wire, Share, each}
+use Rattle.mask_circuit.specs.Wires.{Share, each}
 use Rattle.mask_circuit.specs.Expansion.{Place, names, wire_count}
-use Rattle.mask_circuit.specs.Probing.{same_wire, share_place, output_places}
-use Rattle.mask_circuit.specs.Need.{is_share, inner_probes, probed_shares, probes_at}
-use Rattle.mask_laws.specs.Numbering.{SharesHavePlaces}
+use Rattle.mask_circuit.specs.Probing.{share_place, output_places}
+use Rattle.mask_circuit.specs.Need.{inner_probes, probed_shares, probes_at}
+use Rattle.mask_laws.proofs.Numbering.{shares_have_places}
 use Rattle.mask_laws.proofs.Demands.{inner_probes-append}
 use Rattle.mask_laws.proofs.CircuitNames.{All-each}
 use Rattle.mask_laws.proofs.Probes.{Contains-none, Contains-cons_cases, Contains-head, Contains-tail}
@@ -39,39 +39,39 @@ map_both : {A B C : Type 0} (f : A → B) (g : B → C) (h : A → C) (xs : List
 map_both f g h [] all = refl
 map_both f g h (x ∷ xs) all = ap₂ (λ y ys. y ∷ ys) (all 0 x (omega arith)) (map_both f g h xs (λ k d lt. all (suc k) d (omega arith)))
 
-places_from-names : SharesHavePlaces → (c : Netlist) (N : ℕ) (O : ℕ → ℕ → Bool) → 2 ≤ N → (us : List ℕ) (k : ℕ) → All (λ u. u < value_count c) us →
+places_from-names : (c : Netlist) (N : ℕ) (O : ℕ → ℕ → Bool) → 2 ≤ N → (us : List ℕ) (k : ℕ) → All (λ u. u < value_count c) us →
     probes_at c N (places_from c N O us k) ≡ output_names N O us k
-places_from-names at c N O two [] k known = refl
-places_from-names at c N O two (u ∷ us) k known =
+places_from-names c N O two [] k known = refl
+places_from-names c N O two (u ∷ us) k known =
     map-append (λ p. slice_index_or (names c N) p (0, Share 0)) (map (share_place c N u) (members N (O k))) (places_from c N O us (suc k))
     ∙ ap₂ (λ xs ys. xs ++ ys)
-      (map_both (share_place c N u) (λ p. slice_index_or (names c N) p (0, Share 0)) (λ i. (u, Share i)) (members N (O k))
-        (All-weaker (λ i. i < N) (λ i. slice_index_or (names c N) (share_place c N u i) (0, Share 0) ≡ (u, Share i))
-          (λ i lt. get_or_from_slice_get (names c N) (share_place c N u i) (u, Share i) (0, Share 0)
-            (at c N u i two (All-head (λ u. u < value_count c) u us known) lt))
-          (members N (O k)) (members-below N (O k))))
-      (places_from-names at c N O two us (suc k) (All-tail (λ u. u < value_count c) u us known))
+    (map_both (share_place c N u) (λ p. slice_index_or (names c N) p (0, Share 0)) (λ i. (u, Share i)) (members N (O k))
+    (All-weaker (λ i. i < N) (λ i. slice_index_or (names c N) (share_place c N u i) (0, Share 0) ≡ (u, Share i))
+    (λ i lt. get_or_from_slice_get (names c N) (share_place c N u i) (u, Share i) (0, Share 0)
+    (shares_have_places c N u i two (All-head (λ u. u < value_count c) u us known) lt))
+    (members N (O k)) (members-below N (O k))))
+    (places_from-names c N O two us (suc k) (All-tail (λ u. u < value_count c) u us known))
 
-places_from-below : SharesHavePlaces → (c : Netlist) (N : ℕ) (O : ℕ → ℕ → Bool) → 2 ≤ N → (us : List ℕ) (k : ℕ) → All (λ u. u < value_count c) us →
+places_from-below : (c : Netlist) (N : ℕ) (O : ℕ → ℕ → Bool) → 2 ≤ N → (us : List ℕ) (k : ℕ) → All (λ u. u < value_count c) us →
     All (λ p. p < wire_count c N) (places_from c N O us k)
-places_from-below at c N O two [] k known = λ j d lt. absurd (omega arith)
-places_from-below at c N O two (u ∷ us) k known =
+places_from-below c N O two [] k known = λ j d lt. absurd (omega arith)
+places_from-below c N O two (u ∷ us) k known =
     All-append (λ p. p < wire_count c N) (map (share_place c N u) (members N (O k))) (places_from c N O us (suc k))
     (All-map (λ p. p < wire_count c N) (share_place c N u) (members N (O k))
-      (All-weaker (λ i. i < N) (λ i. share_place c N u i < wire_count c N)
-        (λ i lt. slice_get_within (names c N) (share_place c N u i) (u, Share i) (at c N u i two (All-head (λ u. u < value_count c) u us known) lt))
-        (members N (O k)) (members-below N (O k))))
-    (places_from-below at c N O two us (suc k) (All-tail (λ u. u < value_count c) u us known))
+    (All-weaker (λ i. i < N) (λ i. share_place c N u i < wire_count c N)
+    (λ i lt. slice_get_within (names c N) (share_place c N u i) (u, Share i) (shares_have_places c N u i two (All-head (λ u. u < value_count c) u us known) lt))
+    (members N (O k)) (members-below N (O k))))
+    (places_from-below c N O two us (suc k) (All-tail (λ u. u < value_count c) u us known))
 
 -- the shares of outputs that are asked for are wires of these names ..
-pub output_places-names : SharesHavePlaces → (c : Netlist) (N : ℕ) (O : ℕ → ℕ → Bool) → 2 ≤ N → All (λ u. u < value_count c) c.outputs →
+pub output_places-names : (c : Netlist) (N : ℕ) (O : ℕ → ℕ → Bool) → 2 ≤ N → All (λ u. u < value_count c) c.outputs →
     probes_at c N (output_places c N O) ≡ output_names N O c.outputs 0
-output_places-names at c N O two known = places_from-names at c N O two c.outputs 0 known
+output_places-names c N O two known = places_from-names c N O two c.outputs 0 known
 
 -- .. and have numbers of wires
-pub output_places-below : SharesHavePlaces → (c : Netlist) (N : ℕ) (O : ℕ → ℕ → Bool) → 2 ≤ N → All (λ u. u < value_count c) c.outputs →
+pub output_places-below : (c : Netlist) (N : ℕ) (O : ℕ → ℕ → Bool) → 2 ≤ N → All (λ u. u < value_count c) c.outputs →
     All (λ p. p < wire_count c N) (output_places c N O)
-output_places-below at c N O two known = places_from-below at c N O two c.outputs 0 known
+output_places-below c N O two known = places_from-below c N O two c.outputs 0 known
 
 -- WHAT IS ASKED FOR
 
@@ -89,9 +89,9 @@ output_names-inner N O (u ∷ us) k m =
 shares-only : (set : ℕ → Bool) (u v i : ℕ) (is : List ℕ) → All (λ a. set a ≡ true) is → probed_shares (map (λ a. (u, Share a)) is) v i ≡ true → (u ≡ v) × (set i ≡ true)
 shares-only set u v i [] all e = absurd (true≢false (sym e))
 shares-only set u v i (a ∷ is) all e = elim (or_cases (u == v && i == a) (probed_shares (map (λ a. (u, Share a)) is) v i) e) [
-    inl here ↦ (let parts = and_parts (u == v) (i == a) here in (eqb-true u v parts.0, ap set (eqb-true i a parts.1) ∙ all 0 a (omega arith)))
+  | inl here ↦ (let parts = and_parts (u == v) (i == a) here in (eqb-true u v parts.0, ap set (eqb-true i a parts.1) ∙ all 0 a (omega arith)))
   | inr later ↦ shares-only set u v i is (All-tail (λ a. set a ≡ true) a is all) later
-  ]
+]
 
 -- share i of value v is asked for only where v is an output whose set has i
 pub output_names-only : (N : ℕ) (O : ℕ → ℕ → Bool) (us : List ℕ) (k v i : ℕ) → probed_shares (output_names N O us k) v i ≡ true →
@@ -103,6 +103,7 @@ output_names-only N O (u ∷ us) k v i e =
   where
     first : Bool
     first = probed_shares (map (λ a. (u, Share a)) (members N (O k))) v i
+
     go : (first ≡ true) ⊎ (probed_shares (output_names N O us (suc k)) v i ≡ true) →
         (probed_shares (output_names N O us (suc k)) v i ≡ true → (j : ℕ) × (j < length us) × (slice_index us j ≡ v) × (O (suc k + j) i ≡ true)) →
         (j : ℕ) × (j < suc (length us)) × (slice_index (u ∷ us) j ≡ v) × (O (k + j) i ≡ true)

@@ -1,7 +1,8 @@
 -- The shares of each value stand for its plain value.
-use Rattle.std.proofs.Common.{◌≡◌, ℕ, zero, suc, ◌+◌, ◌<◌, ◌≤◌, ◌⊎◌, inl, inr, Bool, true, false, cond, ◌&&◌, ◌==◌, List, [], ◌∷◌, ◌++◌, map, length, take, drop, All, slice_index_or, refl, ap, ap₂, sym, ◌∙◌, arith}
-use Rattle.std.proofs.lemmas.Bool.{eq-eqb, ne_eqb, lt-ltb, le-ltb, cases_order, cases_lt}
+use Rattle.std.proofs.Common.{◌≡◌, ℕ, zero, suc, ◌+◌, ◌<◌, ◌≤◌, ◌⊎◌, inl, inr, Bool, true, false, cond, ◌&&◌, ◌==◌, List, [], ◌∷◌, ◌++◌, map, length, take, drop, All, refl, ap, ap₂, sym, ◌∙◌, arith}
+use Rattle.std.proofs.lemmas.Bool.{eq-eqb, ne_eqb, lt-ltb, le-ltb, cases_order}
 use Rattle.std.proofs.lemmas.List.{get_or_append_left, get_or_push, length_push}
+use Rattle.std.proofs.lemmas.Option.{get_or_from_slice_get}
 use Rattle.mask_circuit.specs.declared.gates.Gate.{Gate}
 use Rattle.mask_circuit.specs.declared.gates.Gate.TheVariants.{Zero, One, Xor, Not, And, Ref}
 use Rattle.mask_circuit.specs.Netlist.{AreGates, OperandsBelow, value_count}
@@ -10,14 +11,16 @@ use Rattle.mask_circuit.specs.Ring.{bits}
 use Rattle.mask_circuit.specs.Wires.{Wire, Share, Shares, each, pairs, fresh_of, cross, product_wire, fresh_between, refresh_wire, gate_draws, gate_wire}
 use Rattle.mask_circuit.specs.Expansion.{Trace, shares_of, put, start, run, expand}
 use Rattle.mask_laws.specs.Sharing.{xor_all, unshared_inputs, ValuesUnmask, OutputsUnmask}
-use Rattle.mask_laws.proofs.BitSums.{total, total-xor, total_same, total_none, xor_all-each, row_sum-total, square, xor_false, xor_self, xor_comm}
+use Rattle.mask_laws.proofs.Bits.{xor-false, xor_self, xor_comm}
+use Rattle.mask_laws.proofs.BitSums.{total, total-xor, total_same, total_none, xor_all-each, row_sum-total, square}
+use Rattle.mask_laws.proofs.Places.{length-each, slice_get-each}
 
 -- GATES
 
 -- a bit on share 0 alone
 total-on_first : (b : Bool) (n : ℕ) → total (λ i. cond (i == 0) b false) (suc n) ≡ b
 total-on_first b zero = refl
-total-on_first b (suc n) = rw (total-on_first b n, ne_eqb (suc n) 0 (λ e. omega arith)) (xor_false b)
+total-on_first b (suc n) = rw (total-on_first b n, ne_eqb (suc n) 0 (λ e. omega arith)) (xor-false b)
 
 -- off the diagonal, nothing on it
 abbrev off : (ℕ → ℕ → Bool) → ℕ → ℕ → Bool
@@ -51,7 +54,7 @@ refresh_total : (a : Shares Bool) (r : ℕ → ℕ → Bool) (n : ℕ) → total
 refresh_total a r n =
     total_same _ _ (suc n) (λ i l. row_sum-total (a i) (fresh_between r i) i n)
     ∙ total-xor a (λ i. total (off (fresh_between r) i) (suc n)) (suc n)
-    ∙ ap (xor (total a (suc n))) twice ∙ xor_false _
+    ∙ ap (xor (total a (suc n))) twice ∙ xor-false _
   where
     pair : (i j : ℕ) → i < j → xor (off (fresh_between r) i j) (off (fresh_between r) j i) ≡ false
     pair i j lt = off_pair (fresh_between r) i j lt ∙ rw (lt-ltb i j lt, le-ltb j i (omega arith)) (xor_self (r i j))
@@ -78,7 +81,7 @@ gate_total (suc m) (Not u) n t values r one below stand =
   where
     flip : (b s : Bool) → cond b (xor s true) s ≡ xor s (cond b true false)
     flip true s = refl
-    flip false s = sym (xor_false s)
+    flip false s = sym (xor-false s)
 gate_total (suc m) (And u v) n t values r one below stand =
     product_total (shares_of t u) (shares_of t v) (fresh_of bits (pairs (suc m)) r) m ∙ ap₂ (λ y z. y && z) (stand u below.0) (stand v below.1)
 gate_total (suc m) (Ref u) n t values r one below stand =
@@ -111,23 +114,11 @@ run_stands N (g ∷ gs) n t values r one are size stand u lt =
     (Stand_put N n (gate_wire bits N g (shares_of t) (take (gate_draws N g) r)) t values (gate_value g values) size stand (gate_total N g n t values (take (gate_draws N g) r) one are.0 stand))
     u (omega arith)
 
-length-each : {A : Type 0} (f : ℕ → A) (n : ℕ) → length (each f n) ≡ n
-length-each f zero = refl
-length-each f (suc n) = length_push (each f n) (f n) ∙ omega (arith, length-each f n)
-
-get_or-each : {A : Type 0} (f : ℕ → A) (n u : ℕ) (d : A) → u < n → slice_index_or (each f n) u d ≡ f u
-get_or-each f zero u d lt = absurd (omega arith)
-get_or-each f (suc n) u d lt = go (cases_lt u n) (get_or-each f n u d)
-  where
-    go : (u < n) ⊎ (n ≤ u) → (u < n → slice_index_or (each f n) u d ≡ f u) → slice_index_or (each f n ++ f n ∷ []) u d ≡ f u
-    go (inl l) old = get_or_append_left (each f n) (f n ∷ []) d u (omega (arith, length-each f n)) ∙ old l
-    go (inr g) old = let e : n ≡ u = omega arith in get_or_push (each f n) (f n) d u (length-each f n ∙ e) ∙ ap f e
-
 pub values_unmask : ValuesUnmask
 values_unmask c N x r is one u lt =
     xor_all-each _ N
     ∙ run_stands N c.gates c.inputs (start bits x) (unshared_inputs c N x) r one is.gates (length-each _ c.inputs)
-    (λ v l. sym (get_or-each _ c.inputs v false l ∙ xor_all-each (x v) N)) u lt
+    (λ v l. sym (get_or_from_slice_get (unshared_inputs c N x) v _ false (slice_get-each _ c.inputs v l) ∙ xor_all-each (x v) N)) u lt
 
 -- the same at each output
 pub outputs_unmask : OutputsUnmask

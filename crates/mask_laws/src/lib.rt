@@ -3,10 +3,5 @@
 //! Each law is the contract of a public function with nothing to do; a crate above calls it, or cites its lemma.
 #![tactic(auto)]
 
-mod bridges;
+pub mod bridges;
 pub mod gadgets;
-
-pub use bridges::{
-    clash_decides, clash_is_unique, clash_refutes, outputs_unmask, table_reaches, tidy_accepted,
-    values_unmask,
-};
