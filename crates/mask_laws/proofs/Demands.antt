@@ -1,12 +1,14 @@
 -- The demands of a list of probes are those of its parts.
 --
 -- Which row of a product is touched is a matter of all probes, T below; apart from that each probe demands by itself.
-use Rattle.std.proofs.Common.{◌≡◌, ℕ, zero, suc, ◌+◌, ◌<◌, ◌≤◌, Bool, true, false, ◌&&◌, ◌||◌, ◌==◌, List, [], ◌∷◌, ◌++◌, refl, ap, ap₂, sym, ◌∙◌}
+use Rattle.std.proofs.Common.{◌≡◌, ℕ, zero, suc, ◌+◌, ◌<◌, ◌≤◌, Bool, true, false, ◌&&◌, ◌||◌, ◌==◌, List, [], ◌∷◌, ◌++◌, refl, ap, ap₂, sym, subst, ◌∙◌, ⊎_elim, eqb-true}
 use Rattle.std.specs.List.{list_any}
+use Rattle.std.proofs.lemmas.Bool.{and_parts, or_cases, false≢true}
 use Rattle.std.proofs.lemmas.List.Elements.{filter_map-append}
 use Rattle.std.proofs.lemmas.List.Folds.{list_any-append}
 use Rattle.mask_circuit.specs.declared.gates.Gate.{Gate}
 use Rattle.mask_circuit.specs.declared.gates.Gate.TheVariants.{Zero, One, Xor, Not, And, Ref}
+use Rattle.mask_circuit.specs.Netlist.{OperandsBelow}
 use Rattle.mask_circuit.specs.Wires.{Wire, Share}
 use Rattle.mask_circuit.specs.Expansion.{Place}
 use Rattle.mask_circuit.specs.Probing.{ShareSets, same_wire}
@@ -34,9 +36,24 @@ need_part T L (g ∷ gs) n v i = need_part T L gs (suc n) v i || demand_part (T 
 abbrev pub touched : List Place → ℕ → ShareSet
 touched P n = product_rows (inner_probes n P)
 
-demand-part : (g : Gate) (Q : List Wire) (O : ShareSet) (v i : ℕ) → demand g Q O v i ≡ demand_part (product_rows Q) g Q O v i
+pub demand-part : (g : Gate) (Q : List Wire) (O : ShareSet) (v i : ℕ) → demand g Q O v i ≡ demand_part (product_rows Q) g Q O v i
 demand-part Zero Q O v i = refl
 demand-part g Q O v i = refl
+
+-- a gate demands shares of its operands alone
+pub demand_part-below : (T : ShareSet) (n : ℕ) (g : Gate) (Q : List Wire) (O : ShareSet) (v i : ℕ) → OperandsBelow n g → demand_part T g Q O v i ≡ true → v < n
+demand_part-below T n Zero Q O v i below d = absurd (false≢true d)
+demand_part-below T n One Q O v i below d = absurd (false≢true d)
+demand_part-below T n (Xor u w) Q O v i below d = ⊎_elim
+    (λ e. subst (λ (k : ℕ). k < n) (sym (eqb-true v u e)) below.0)
+    (λ e. subst (λ (k : ℕ). k < n) (sym (eqb-true v w e)) below.1)
+    (or_cases (v == u) (v == w) (and_parts (v == u || v == w) (O i) d).0)
+demand_part-below T n (Not u) Q O v i below d = subst (λ (k : ℕ). k < n) (sym (eqb-true v u (and_parts (v == u) (O i) d).0)) below
+demand_part-below T n (And u w) Q O v i below d = ⊎_elim
+    (λ e. subst (λ (k : ℕ). k < n) (sym (eqb-true v u (and_parts (v == u) (left_need Q i) e).0)) below.0)
+    (λ e. subst (λ (k : ℕ). k < n) (sym (eqb-true v w (and_parts (v == w) (right_part T Q i) e).0)) below.1)
+    (or_cases (v == u && left_need Q i) (v == w && right_part T Q i) d)
+demand_part-below T n (Ref u) Q O v i below d = subst (λ (k : ℕ). k < n) (sym (eqb-true v u (and_parts (v == u) (refresh_need Q i) d).0)) below
 
 -- all probes together demand what they need
 pub need_from-part : (P : List Place) (gs : List Gate) (n v i : ℕ) → need_from P gs n v i ≡ need_part (touched P) P gs n v i

@@ -1,6 +1,6 @@
 -- The shift of a tape keeps what the probes see.
 use Rattle.std.proofs.Common.{◌≡◌, ℕ, zero, suc, ◌+◌, ◌<◌, ◌≤◌, Bool, true, false, ◌&&◌, ◌||◌, ◌==◌, ◌⊎◌, inl, inr, List, [], ◌∷◌, ◌++◌, length, take, drop, All, Contains, refl, ap, ap₂, sym, subst, ◌∙◌, arith, eq-eqb, eqb-true, cond, ⊎_elim, add-zero}
-use Rattle.std.proofs.lemmas.Bool.{and_parts, and_from, or_cases, false≢true}
+use Rattle.std.proofs.lemmas.Bool.{and_parts, and_from, or_cases, or_left, or_right, false≢true}
 use Rattle.std.proofs.lemmas.List.Elements.{All-contains}
 use Rattle.mask_circuit.specs.declared.gates.Gate.{Gate}
 use Rattle.mask_circuit.specs.declared.gates.Gate.TheVariants.{Zero, One, Xor, Not, And, Ref}
@@ -9,11 +9,12 @@ use Rattle.mask_circuit.specs.Value.{xor}
 use Rattle.mask_circuit.specs.Ring.{bits}
 use Rattle.mask_circuit.specs.Wires.{Wire, Share, Product, Fresh, Left, Right, Partial, Shares, gate_names, gate_draws, gate_wire}
 use Rattle.mask_circuit.specs.Expansion.{Place, Trace, shares_of, put, run}
-use Rattle.mask_circuit.specs.Need.{ShareSet, is_share, inner_probes, left_need, right_need, refresh_need, demand, need_from}
+use Rattle.mask_circuit.specs.Need.{ShareSet, is_share, inner_probes, product_rows, demand, need_from}
 use Rattle.mask_circuit.specs.Shift.{add_bits, gate_mask, shift_from}
 use Rattle.mask_laws.specs.Gadgets.{AreInner, FitsGate, AgreeBefore, IsWatched, GateKeeps}
 use Rattle.mask_laws.specs.Circuits.{FitsAt, FitsFrom}
-use Rattle.mask_laws.proofs.Probes.{or_left, or_right, All-inner_probes, Contains-inner_probes}
+use Rattle.mask_laws.proofs.Demands.{demand-part, demand_part-below}
+use Rattle.mask_laws.proofs.Probes.{All-inner_probes, Contains-inner_probes}
 use Rattle.mask_laws.proofs.Tapes.{length-add_bits}
 use Rattle.mask_laws.proofs.Traces.{put-same, run-earlier}
 use Rattle.mask_laws.proofs.Shifts.{draws_from, mask_at, trace_at, front_of_tape, take_front, drop_front}
@@ -44,18 +45,8 @@ keeps_at keeps N (Xor u v) Q O s s' r two inner fits agree long (Share i) watche
         (agree v i h.0 (and_from (v == u || v == v) (O i) (or_right (v == u) (v == v) (eq-eqb v v refl)) h.1))
 keeps_at keeps N (Xor u v) Q O s s' r two inner fits agree long w watched = refl
 
--- a gate demands shares of its operands alone
-pub demand-below : (n : ℕ) (g : Gate) (Q : List Wire) (O : ShareSet) (v i : ℕ) → OperandsBelow n g → demand g Q O v i ≡ true → v < n
-demand-below n Zero Q O v i below d = absurd (false≢true d)
-demand-below n One Q O v i below d = absurd (false≢true d)
-demand-below n (Xor u w) Q O v i below d = ⊎_elim (λ e. subst (λ (k : ℕ). k < n) (sym (eqb-true v u e)) below.0) (λ e. subst (λ (k : ℕ). k < n) (sym (eqb-true v w e)) below.1)
-    (or_cases (v == u) (v == w) (and_parts (v == u || v == w) (O i) d).0)
-demand-below n (Not u) Q O v i below d = subst (λ (k : ℕ). k < n) (sym (eqb-true v u (and_parts (v == u) (O i) d).0)) below
-demand-below n (Ref u) Q O v i below d = subst (λ (k : ℕ). k < n) (sym (eqb-true v u (and_parts (v == u) (refresh_need Q i) d).0)) below
-demand-below n (And u w) Q O v i below d = ⊎_elim
-    (λ e. subst (λ (k : ℕ). k < n) (sym (eqb-true v u (and_parts (v == u) (left_need Q i) e).0)) below.0)
-    (λ e. subst (λ (k : ℕ). k < n) (sym (eqb-true v w (and_parts (v == w) (right_need Q i) e).0)) below.1)
-    (or_cases (v == u && left_need Q i) (v == w && right_need Q i) d)
+demand-below : (n : ℕ) (g : Gate) (Q : List Wire) (O : ShareSet) (v i : ℕ) → OperandsBelow n g → demand g Q O v i ≡ true → v < n
+demand-below n g Q O v i below d = demand_part-below (product_rows Q) n g Q O v i below (sym (demand-part g Q O v i) ∙ d)
 
 -- the probes on wires of these gates, the first of which makes value n, are names of their wires
 abbrev pub AreNamed : ℕ → List Place → List Gate → ℕ → Type 0

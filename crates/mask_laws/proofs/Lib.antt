@@ -22,7 +22,6 @@ pub mod Reaching
 pub mod Seen
 pub mod Sets
 pub mod Shifts
-pub mod Sizes
 pub mod Sums
 pub mod Tapes
 pub mod Traces

@@ -1,33 +1,14 @@
 -- The probes of a circuit by the gate that they stand in, and what is demanded at least.
 use Rattle.std.proofs.Common.{◌≡◌, ℕ, zero, suc, ◌+◌, ◌<◌, ◌≤◌, Bool, true, false, cond, not, ◌&&◌, ◌||◌, ◌==◌, ◌⊎◌, inl, inr, List, [], ◌∷◌, ◌++◌, length, map, All, Contains, Some, None, refl, ap, ap₂, sym, subst, ◌∙◌, arith, eqb-true, eq-eqb}
 use Rattle.std.specs.List.{cons_option, list_any}
-use Rattle.std.proofs.lemmas.Bool.{and_parts, and_from, not-true, or_cases}
+use Rattle.std.proofs.lemmas.Bool.{and_parts, and_from, not-true, or_left, or_right}
 use Rattle.std.proofs.lemmas.List.Elements.{All-nil, All-cons}
 use Rattle.mask_circuit.specs.declared.gates.Gate.{Gate}
 use Rattle.mask_circuit.specs.Wires.{Wire, Share}
 use Rattle.mask_circuit.specs.Expansion.{Place}
 use Rattle.mask_circuit.specs.Probing.{same_wire}
 use Rattle.mask_circuit.specs.Need.{is_share, inner_probes, probed_shares, need_from, demand}
-
-pub or_left : (x y : Bool) → x ≡ true → (x || y) ≡ true
-or_left x y h = ap (λ (b : Bool). b || y) h
-
-pub or_right : (x y : Bool) → y ≡ true → (x || y) ≡ true
-or_right true y h = refl
-or_right false y h = h
-
-pub Contains-none : {X : Type 0} (x : X) → Contains [] x → ⊥
-Contains-none x (k, h, e) = omega arith
-
-pub Contains-cons_cases : {X : Type 0} (y : X) (xs : List X) (x : X) → Contains (y ∷ xs) x → (y ≡ x) ⊎ Contains xs x
-Contains-cons_cases y xs x (zero, h, e) = inl e
-Contains-cons_cases y xs x (suc k, h, e) = inr (k, omega arith, e)
-
-pub Contains-head : {X : Type 0} (y : X) (xs : List X) → Contains (y ∷ xs) y
-Contains-head y xs = (zero, omega arith, refl)
-
-pub Contains-tail : {X : Type 0} (y : X) (xs : List X) (x : X) → Contains xs x → Contains (y ∷ xs) x
-Contains-tail y xs x (k, h, e) = (suc k, omega arith, e)
+use Rattle.mask_laws.proofs.Members.{none_in_nil, Contains-cons_cases, Contains-first, Contains-later}
 
 -- whether p is an inner probe of value n
 abbrev pub is_inner_at : ℕ → Place → Bool
@@ -36,32 +17,32 @@ is_inner_at n p = p.0 == n && not (is_share p.1)
 -- each inner probe of value n stands in the list, and is no share
 pub All-inner_probes : (A : Wire → Type 0) (n : ℕ) (P : List Place) → ((w : Wire) → Contains P (n, w) → A w) → All (λ w. A w × (is_share w ≡ false)) (inner_probes n P)
 All-inner_probes A n [] h = All-nil (λ w. A w × (is_share w ≡ false))
-All-inner_probes A n (p ∷ P) h = go (is_inner_at n p) refl (All-inner_probes A n P (λ w k. h w (Contains-tail p P (n, w) k)))
+All-inner_probes A n (p ∷ P) h = go (is_inner_at n p) refl (All-inner_probes A n P (λ w k. h w (Contains-later p P (n, w) k)))
   where
     go : (b : Bool) → is_inner_at n p ≡ b → All (λ w. A w × (is_share w ≡ false)) (inner_probes n P) →
         All (λ w. A w × (is_share w ≡ false)) (cons_option (cond b (Some p.1) None) (inner_probes n P))
     go false e rest = rest
     go true e rest =
         let both = and_parts (p.0 == n) (not (is_share p.1)) e in
-        let here : Contains (p ∷ P) (n, p.1) = subst (λ (m : ℕ). Contains (p ∷ P) (m, p.1)) (eqb-true p.0 n both.0) (Contains-head p P) in
+        let here : Contains (p ∷ P) (n, p.1) = subst (λ (m : ℕ). Contains (p ∷ P) (m, p.1)) (eqb-true p.0 n both.0) (Contains-first p P) in
         All-cons (λ w. A w × (is_share w ≡ false)) p.1 (inner_probes n P) (h p.1 here, not-true (is_share p.1) both.1) rest
 
 -- a probe on a wire of value n that is no share is among its inner probes
 pub Contains-inner_probes : (n : ℕ) (P : List Place) (w : Wire) → Contains P (n, w) → is_share w ≡ false → Contains (inner_probes n P) w
-Contains-inner_probes n [] w k inner = absurd (Contains-none _ k)
+Contains-inner_probes n [] w k inner = absurd (none_in_nil _ k)
 Contains-inner_probes n (p ∷ P) w k inner = go (is_inner_at n p) refl (Contains-cons_cases p P (n, w) k) (λ (rest : Contains P (n, w)). Contains-inner_probes n P w rest inner)
   where
     passes : p ≡ (n, w) → is_inner_at n p ≡ true
     passes e = ap (is_inner_at n) e ∙ and_from (n == n) (not (is_share w)) (eq-eqb n n refl) (ap not inner)
     go : (b : Bool) → is_inner_at n p ≡ b → (p ≡ (n, w)) ⊎ Contains P (n, w) → (Contains P (n, w) → Contains (inner_probes n P) w) →
         Contains (cons_option (cond b (Some p.1) None) (inner_probes n P)) w
-    go true e (inl same) ih = subst (λ (q : Place). Contains (p.1 ∷ inner_probes n P) q.1) same (Contains-head p.1 (inner_probes n P))
-    go true e (inr rest) ih = Contains-tail p.1 (inner_probes n P) w (ih rest)
+    go true e (inl same) ih = subst (λ (q : Place). Contains (p.1 ∷ inner_probes n P) q.1) same (Contains-first p.1 (inner_probes n P))
+    go true e (inr rest) ih = Contains-later p.1 (inner_probes n P) w (ih rest)
     go false e (inl same) ih = absurd (let t = passes same in cc)
     go false e (inr rest) ih = ih rest
 
 pub probed_shares-from_Contains : (P : List Place) (v i : ℕ) → Contains P (v, Share i) → probed_shares P v i ≡ true
-probed_shares-from_Contains [] v i k = absurd (Contains-none _ k)
+probed_shares-from_Contains [] v i k = absurd (none_in_nil _ k)
 probed_shares-from_Contains (p ∷ P) v i k = go (Contains-cons_cases p P (v, Share i) k) (λ (rest : Contains P (v, Share i)). probed_shares-from_Contains P v i rest)
   where
     go : (p ≡ (v, Share i)) ⊎ Contains P (v, Share i) → (Contains P (v, Share i) → probed_shares P v i ≡ true) → probed_shares (p ∷ P) v i ≡ true

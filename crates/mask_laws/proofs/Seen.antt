@@ -13,7 +13,8 @@ use Rattle.mask_circuit.specs.Shift.{shift, shift_from}
 use Rattle.mask_laws.specs.Gadgets.{GateKeeps, MaskIsSymmetric}
 use Rattle.mask_laws.specs.Circuits.{Fits}
 use Rattle.mask_laws.proofs.Tapes.{sum_over_tapes-same}
-use Rattle.mask_laws.proofs.Probes.{probed_shares-from_Contains, need_from-probed, Contains-head, Contains-tail}
+use Rattle.mask_laws.proofs.Probes.{probed_shares-from_Contains, need_from-probed}
+use Rattle.mask_laws.proofs.Members.{Contains-first, Contains-later}
 use Rattle.mask_laws.proofs.Shifts.{sum_over_tapes-shift_from, length-shift_from, shift_from-back}
 use Rattle.mask_laws.proofs.Keeping.{TracesAgree, keeps_from}
 use Rattle.mask_laws.proofs.CircuitNames.{IsShareBelow, IsNamedFrom, names-within, AreNamed-from_names}
@@ -38,10 +39,10 @@ pub expand-shift_by : GateKeeps → (c : Netlist) (N : ℕ) (P : List Place) (x 
 expand-shift_by keeps c N P x y r two are named fits agree long v w k = go w k (within w k)
   where
     kept : TracesAgree N P c.gates c.inputs (c.inputs + length c.gates) (expand bits c N x r) (expand bits c N y (shift_by c N x y P r))
-    kept = keeps_from keeps N P c.gates c.inputs (start bits x) (start bits y) r two are (AreNamed-from_names c N P named) fits long
+    kept = keeps_from keeps N P c.gates c.inputs (start bits x) (start bits y) r two are (AreNamed-from_names c N P two named) fits long
         (record { shares = agree; inner = λ v w h k e. start-inner x y v w e })
     within : (w : Wire) → Contains P (v, w) → IsNamedFrom N 0 (c.inputs + length c.gates) (v, w)
-    within w k = All-contains (IsNamedFrom N 0 (c.inputs + length c.gates)) (names c N) (v, w) (names-within c N) (All-contains (Contains (names c N)) P (v, w) named k)
+    within w k = All-contains (IsNamedFrom N 0 (c.inputs + length c.gates)) (names c N) (v, w) (names-within c N two) (All-contains (Contains (names c N)) P (v, w) named k)
     go : (w : Wire) → Contains P (v, w) → IsNamedFrom N 0 (c.inputs + length c.gates) (v, w) → expand bits c N x r v w ≡ expand bits c N y (shift_by c N x y P r) v w
     go (Share i) k h = kept.shares v i h.1 h.2 (need_from-probed P c.gates c.inputs v i (probed_shares-from_Contains P v i k))
     go (Product i j) k h = kept.inner v (Product i j) h.1 k refl
@@ -52,7 +53,7 @@ expand-shift_by keeps c N P x y r two are named fits agree long v w k = go w k (
 
 map-same : {A B : Type 0} (f g : A → B) (xs : List A) → ((a : A) → Contains xs a → f a ≡ g a) → map f xs ≡ map g xs
 map-same f g [] h = refl
-map-same {B} f g (x ∷ xs) h = ap₂ (λ (b : B) (bs : List B). b ∷ bs) (h x (Contains-head x xs)) (map-same f g xs (λ a k. h a (Contains-tail x xs a k)))
+map-same {B} f g (x ∷ xs) h = ap₂ (λ (b : B) (bs : List B). b ∷ bs) (h x (Contains-first x xs)) (map-same f g xs (λ a k. h a (Contains-later x xs a k)))
 
 -- so the probes see the same
 pub seen_by-shift_by : GateKeeps → (c : Netlist) (N : ℕ) (P : List Place) (x y : ℕ → Shares Bool) (r : List Bool) → 2 ≤ N → AreGates c.inputs c.gates →
