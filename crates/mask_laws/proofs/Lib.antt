@@ -26,3 +26,4 @@ pub mod Sums
 pub mod Tapes
 pub mod Traces
 pub mod Unmasking
+pub mod Strengthening

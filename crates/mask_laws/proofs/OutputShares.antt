@@ -14,7 +14,7 @@ use Rattle.mask_circuit.specs.Need.{inner_probes, probed_shares, probes_at}
 use Rattle.mask_laws.proofs.Numbering.{shares_have_places}
 use Rattle.mask_laws.proofs.Demands.{inner_probes-append}
 use Rattle.mask_laws.proofs.CircuitNames.{All-each}
-use Rattle.mask_laws.proofs.Probes.{Contains-none, Contains-cons_cases, Contains-head, Contains-tail}
+use Rattle.mask_laws.proofs.Members.{none_in_nil, Contains-cons_cases, Contains-first, Contains-later}
 
 -- the numbers below n that are in the set
 abbrev pub members : ℕ → (ℕ → Bool) → List ℕ
@@ -123,17 +123,17 @@ members-all (suc n) set i lt e = subst (λ (xs : List ℕ). Contains xs i) (sym 
   where
     go : (i ≡ n) ⊎ ((i < n) ⊎ (n < i)) → (i < n → Contains (members n set) i) → Contains (members n set ++ filter set (n ∷ [])) i
     go (inl same) up = Contains-append_right (members n set) (filter set (n ∷ [])) i
-        (rw (ap set (sym same) ∙ e) (subst (λ (m : ℕ). Contains (n ∷ []) m) (sym same) (Contains-head n [])))
+        (rw (ap set (sym same) ∙ e) (subst (λ (m : ℕ). Contains (n ∷ []) m) (sym same) (Contains-first n [])))
     go (inr (inl l)) up = Contains-append_left (members n set) (filter set (n ∷ [])) i (up l)
     go (inr (inr g)) up = absurd (omega arith)
 
 Contains-map : {A B : Type 0} (f : A → B) (xs : List A) (a : A) → Contains xs a → Contains (map f xs) (f a)
-Contains-map f [] a h = absurd (Contains-none a h)
+Contains-map f [] a h = absurd (none_in_nil a h)
 Contains-map f (x ∷ xs) a h = go (Contains-cons_cases x xs a h) (λ t. Contains-map f xs a t)
   where
     go : (x ≡ a) ⊎ Contains xs a → (Contains xs a → Contains (map f xs) (f a)) → Contains (f x ∷ map f xs) (f a)
-    go (inl same) up = subst (λ b. Contains (f x ∷ map f xs) (f b)) same (Contains-head (f x) (map f xs))
-    go (inr t) up = Contains-tail (f x) (map f xs) (f a) (up t)
+    go (inl same) up = subst (λ b. Contains (f x ∷ map f xs) (f b)) same (Contains-first (f x) (map f xs))
+    go (inr t) up = Contains-later (f x) (map f xs) (f a) (up t)
 
 -- and each such share is
 pub output_names-all : (N : ℕ) (O : ℕ → ℕ → Bool) (us : List ℕ) (k j i : ℕ) → j < length us → i < N → O (k + j) i ≡ true →

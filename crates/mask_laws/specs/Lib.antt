@@ -5,3 +5,4 @@ pub mod Names
 pub mod Needs
 pub mod Numbering
 pub mod Sharing
+pub mod Strong

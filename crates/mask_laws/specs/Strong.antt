@@ -1,0 +1,24 @@
+-- What holds of strong circuits.
+use Rattle.std.specs.Prelude.{ℕ, ◌+◌, ◌<◌, ◌≤◌, Bool, List, ◌++◌, length, All}
+use Rattle.mask_circuit.specs.Netlist.{Netlist, IsCircuit}
+use Rattle.mask_circuit.specs.Expansion.{wire_count}
+use Rattle.mask_circuit.specs.Probing.{size, HasAtMost, IsSimulated, output_places, IsSNI}
+use Rattle.mask_circuit.specs.Need.{need}
+use Rattle.mask_circuit.specs.Acceptance.{IsStrong}
+
+-- the wires P, and the sets O of shares of each output, are as many as strong non-interference allows
+pub record AreAllowed (c : Netlist) (N : ℕ) (P : List ℕ) (O : ℕ → ℕ → Bool) : Type 0 where
+  pub wires : All (λ p. p < wire_count c N) P
+  pub few : length P < N
+  pub fewer : (k : ℕ) → k < length c.outputs → length P + size N (O k) < N
+
+-- A strong circuit needs, for t wires and shares of its outputs, at most t shares of each input, and these suffice. The
+-- t wires needn't be inner ones.
+abbrev pub StrongNeed : Type 0
+StrongNeed = (c : Netlist) (N : ℕ) (P : List ℕ) (O : ℕ → ℕ → Bool) → 2 ≤ N → IsCircuit c → IsStrong c → AreAllowed c N P O →
+    HasAtMost c N (need c N (P ++ output_places c N O)) (length P)
+    × IsSimulated c N (P ++ output_places c N O) (need c N (P ++ output_places c N O))
+
+-- So it is strongly non-interfering.
+abbrev pub StrongIsSNI : Type 0
+StrongIsSNI = (c : Netlist) (N : ℕ) → 2 ≤ N → IsCircuit c → IsStrong c → IsSNI c N
