@@ -19,11 +19,14 @@ pub mod OutputShares
 pub mod Places
 pub mod Probes
 pub mod Reaching
+pub mod RunExamples
+pub mod RunNeeds
+pub mod Running
 pub mod Seen
 pub mod Sets
 pub mod Shifts
+pub mod Strengthening
 pub mod Sums
 pub mod Tapes
 pub mod Traces
 pub mod Unmasking
-pub mod Strengthening

@@ -127,7 +127,7 @@ members-all (suc n) set i lt e = subst (λ (xs : List ℕ). Contains xs i) (sym 
     go (inr (inl l)) up = Contains-append_left (members n set) (filter set (n ∷ [])) i (up l)
     go (inr (inr g)) up = absurd (omega arith)
 
-Contains-map : {A B : Type 0} (f : A → B) (xs : List A) (a : A) → Contains xs a → Contains (map f xs) (f a)
+pub Contains-map : {A B : Type 0} (f : A → B) (xs : List A) (a : A) → Contains xs a → Contains (map f xs) (f a)
 Contains-map f [] a h = absurd (none_in_nil a h)
 Contains-map f (x ∷ xs) a h = go (Contains-cons_cases x xs a h) (λ t. Contains-map f xs a t)
   where

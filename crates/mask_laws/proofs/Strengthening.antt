@@ -35,7 +35,7 @@ or_turn false true false = refl
 or_turn false false d = sym (or-false d)
 
 -- a set is empty, or has an element
-size_cases : (n : ℕ) (f : ℕ → Bool) → (size n f ≡ 0) ⊎ ((i : ℕ) × (i < n) × (f i ≡ true))
+pub size_cases : (n : ℕ) (f : ℕ → Bool) → (size n f ≡ 0) ⊎ ((i : ℕ) × (i < n) × (f i ≡ true))
 size_cases zero f = inl refl
 size_cases (suc n) f = go (f n) refl (size_cases n f)
   where

@@ -4,5 +4,6 @@ pub mod Gadgets
 pub mod Names
 pub mod Needs
 pub mod Numbering
+pub mod Runs
 pub mod Sharing
 pub mod Strong
