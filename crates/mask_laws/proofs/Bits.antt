@@ -1,5 +1,5 @@
 -- The sum of two bits, and what a test says.
-use Rattle.std.proofs.Common.{◌≡◌, Bool, true, false, not, ◌&&◌, refl}
+use Rattle.std.proofs.Common.{◌≡◌, Bool, true, false, ◌&&◌, refl, sym, ap, ◌∙◌}
 use Rattle.mask_circuit.specs.Value.{xor}
 
 pub xor-false : (a : Bool) → xor a false ≡ a
@@ -59,3 +59,14 @@ xor_same false false e = refl
 pub and-true : (a : Bool) → (a && true) ≡ a
 and-true true = refl
 and-true false = refl
+
+-- the last two terms of a sum, changed
+pub xor_right_comm : (a b c : Bool) → xor (xor a b) c ≡ xor (xor a c) b
+xor_right_comm a b c = xor_assoc a b c ∙ ap (λ x. xor a x) (xor_comm b c) ∙ sym (xor_assoc a c b)
+
+-- two terms, each twice
+pub both_twice : (a b : Bool) → xor (xor (xor a b) a) b ≡ false
+both_twice true true = refl
+both_twice true false = refl
+both_twice false true = refl
+both_twice false false = refl

@@ -1,10 +1,10 @@
 -- The names of a circuit's wires.
-use Rattle.std.proofs.Common.{◌≡◌, ℕ, zero, suc, pred, ◌+◌, ◌-◌, ◌<◌, ◌≤◌, Bool, true, false, cond, ◌⊎◌, inl, inr, List, [], ◌∷◌, ◌++◌, length, map, All, Contains, flat_map, refl, ap, sym, subst, ◌∙◌, arith, ⊎_elim, le_refl, eq-or-lt_of_le}
-use Rattle.std.proofs.lemmas.List.Elements.{All-nil, All-cons, All-head, All-tail, All-append, All-map, All-weaker, All-contains, All-contains_itself, Contains-append_cases}
+use Rattle.std.proofs.Common.{◌≡◌, ℕ, zero, suc, ◌+◌, ◌<◌, ◌≤◌, ◌⊎◌, inl, inr, List, [], ◌∷◌, length, map, All, Contains, refl, arith, ⊎_elim, le_refl}
+use Rattle.std.proofs.lemmas.List.Elements.{All-nil, All-cons, All-append, All-map, All-weaker, All-contains, All-contains_itself, Contains-append_cases}
 use Rattle.mask_circuit.specs.declared.gates.Gate.{Gate}
 use Rattle.mask_circuit.specs.declared.gates.Gate.TheVariants.{Zero, One, Xor, Not, And, Ref}
 use Rattle.mask_circuit.specs.Netlist.{Netlist}
-use Rattle.mask_circuit.specs.Wires.{Wire, Share, Product, Fresh, Left, Right, Partial, Pair, each, joined, other, is_last, row_pairs, pairs, row_wire, share_names, product_names, refresh_names, gate_names}
+use Rattle.mask_circuit.specs.Wires.{Wire, Share, Product, Fresh, Left, Right, Partial, each, joined, gate_names}
 use Rattle.mask_circuit.specs.Expansion.{Place, names, names_from}
 use Rattle.mask_laws.specs.Names.{IsGateName}
 use Rattle.mask_laws.proofs.Names.{gate_names-by_shape}
@@ -48,25 +48,29 @@ pub names_from-within : (N n : ℕ) (gs : List Gate) → 2 ≤ N → All (IsName
 names_from-within N n [] two = All-nil (IsNamedFrom N n (n + 0))
 names_from-within N n (g ∷ gs) two =
     All-append (IsNamedFrom N n (n + length (g ∷ gs))) (map (λ w. (n, w)) (gate_names N g)) (names_from N gs (suc n))
-        (All-map (IsNamedFrom N n (n + length (g ∷ gs))) (λ w. (n, w)) (gate_names N g)
-            (All-weaker (IsShareBelow N) (λ w. IsNamedFrom N n (n + length (g ∷ gs)) (n, w)) (λ w h. (le_refl n, omega arith, h)) (gate_names N g) (gate_names-below N g two)))
-        (All-weaker (IsNamedFrom N (suc n) (suc n + length gs)) (IsNamedFrom N n (n + length (g ∷ gs))) (λ p h. (omega arith, omega arith, h.2)) _ (names_from-within N (suc n) gs two))
+    (All-map (IsNamedFrom N n (n + length (g ∷ gs))) (λ w. (n, w)) (gate_names N g)
+    (All-weaker (IsShareBelow N) (λ w. IsNamedFrom N n (n + length (g ∷ gs)) (n, w)) (λ w h. (le_refl n, omega arith, h)) (gate_names N g) (gate_names-below N g two)))
+    (All-weaker (IsNamedFrom N (suc n) (suc n + length gs)) (IsNamedFrom N n (n + length (g ∷ gs))) (λ p h. (omega arith, omega arith, h.2)) _
+    (names_from-within N (suc n) gs two))
 
 -- a name that is in the list of the gates' names: either of the first gate, or of a later one
 names_from-cases : (N n : ℕ) (g : Gate) (gs : List Gate) (v : ℕ) (w : Wire) → Contains (names_from N (g ∷ gs) n) (v, w) →
     ((v ≡ n) × Contains (gate_names N g) w) ⊎ Contains (names_from N gs (suc n)) (v, w)
 names_from-cases N n g gs v w k = ⊎_elim
     (λ h. inl (All-contains (λ (p : Place). (p.0 ≡ n) × Contains (gate_names N g) p.1) (map (λ w. (n, w)) (gate_names N g)) (v, w)
-        (All-map (λ (p : Place). (p.0 ≡ n) × Contains (gate_names N g) p.1) (λ w. (n, w)) (gate_names N g)
-            (All-weaker (Contains (gate_names N g)) (λ w. (n ≡ n) × Contains (gate_names N g) w) (λ w c. (refl, c)) (gate_names N g) (All-contains_itself (gate_names N g)))) h))
+    (All-map (λ (p : Place). (p.0 ≡ n) × Contains (gate_names N g) p.1) (λ w. (n, w)) (gate_names N g)
+    (All-weaker (Contains (gate_names N g)) (λ w. (n ≡ n) × Contains (gate_names N g) w) (λ w c. (refl, c)) (gate_names N g) (All-contains_itself (gate_names N g)))) h))
     (λ h. inr h)
     (Contains-append_cases (map (λ w. (n, w)) (gate_names N g)) (names_from N gs (suc n)) (v, w) k)
 
 -- probes whose later ones are names of these gates are names at each gate
-AreNamed-from : (N : ℕ) (P : List Place) (gs : List Gate) (n : ℕ) → 2 ≤ N → ((v : ℕ) (w : Wire) → n ≤ v → Contains P (v, w) → Contains (names_from N gs n) (v, w)) → AreNamed N P gs n
+AreNamed-from : (N : ℕ) (P : List Place) (gs : List Gate) (n : ℕ) → 2 ≤ N →
+    ((v : ℕ) (w : Wire) → n ≤ v → Contains P (v, w) → Contains (names_from N gs n) (v, w)) → AreNamed N P gs n
 AreNamed-from N P [] n two h = tt
 AreNamed-from N P (g ∷ gs) n two h = (
-  λ w k. ⊎_elim (λ c. c.1) (λ c. absurd (let later = All-contains (IsNamedFrom N (suc n) (suc n + length gs)) (names_from N gs (suc n)) (n, w) (names_from-within N (suc n) gs two) c in omega arith))
+  λ w k. ⊎_elim (λ c. c.1)
+      (λ c. let later = All-contains (IsNamedFrom N (suc n) (suc n + length gs)) (names_from N gs (suc n)) (n, w) (names_from-within N (suc n) gs two) c in
+      absurd (omega arith))
       (names_from-cases N n g gs n w (h n w (le_refl n) k)),
   AreNamed-from N P gs (suc n) two (λ v w m k. ⊎_elim (λ c. absurd (omega arith)) (λ c. c) (names_from-cases N n g gs v w (h v w (omega arith) k))),
 )
@@ -85,13 +89,14 @@ pub names-within : (c : Netlist) (N : ℕ) → 2 ≤ N → All (IsNamedFrom N 0 
 unfolding input_names
 names-within c N two = All-append (IsNamedFrom N 0 (c.inputs + length c.gates)) (input_names N c.inputs) (names_from N c.gates c.inputs)
     (All-weaker (IsNamedFrom N 0 c.inputs) (IsNamedFrom N 0 (c.inputs + length c.gates)) (λ p h. (omega arith, omega arith, h.2)) _ (input_names-within N c.inputs))
-    (All-weaker (IsNamedFrom N c.inputs (c.inputs + length c.gates)) (IsNamedFrom N 0 (c.inputs + length c.gates)) (λ p h. (omega arith, h.1, h.2)) _ (names_from-within N c.inputs c.gates two))
+    (All-weaker (IsNamedFrom N c.inputs (c.inputs + length c.gates)) (IsNamedFrom N 0 (c.inputs + length c.gates)) (λ p h. (omega arith, h.1, h.2)) _
+    (names_from-within N c.inputs c.gates two))
 
 -- names of the circuit are names at each gate
 pub AreNamed-from_names : (c : Netlist) (N : ℕ) (P : List Place) → 2 ≤ N → All (Contains (names c N)) P → AreNamed N P c.gates c.inputs
 unfolding input_names
 AreNamed-from_names c N P two all = AreNamed-from N P c.gates c.inputs two
     (λ v w m k. ⊎_elim
-        (λ h. absurd (let below = All-contains (IsNamedFrom N 0 c.inputs) (input_names N c.inputs) (v, w) (input_names-within N c.inputs) h in omega arith))
-        (λ h. h)
-        (Contains-append_cases (input_names N c.inputs) (names_from N c.gates c.inputs) (v, w) (All-contains (Contains (names c N)) P (v, w) all k)))
+    (λ h. absurd (let below = All-contains (IsNamedFrom N 0 c.inputs) (input_names N c.inputs) (v, w) (input_names-within N c.inputs) h in omega arith))
+    (λ h. h)
+    (Contains-append_cases (input_names N c.inputs) (names_from N c.gates c.inputs) (v, w) (All-contains (Contains (names c N)) P (v, w) all k)))

@@ -2,17 +2,19 @@
 --
 -- What a probe demands of its gate's operands is one share of each; from there demands go down through xor and not
 -- alone, to values that reach fewer sources. The operands of a product reach no source in common.
-use Rattle.std.proofs.Common.{◌≡◌, ℕ, zero, suc, ◌+◌, ◌-◌, ◌<◌, ◌≤◌, Bool, true, false, cond, not, ◌&&◌, ◌||◌, ◌==◌, nat_lt, ◌⊎◌, inl, inr, ⊎_elim, List, [], ◌∷◌, length, slice_get, Option, Some, None, refl, ap, sym, subst, ◌∙◌, arith, le-ltb, eqb-true, ne_eqb, add-zero}
+use Rattle.std.proofs.Common.{◌≡◌, ℕ, suc, ◌+◌, ◌-◌, ◌<◌, Bool, true, false, cond, not, ◌&&◌, ◌||◌, ◌==◌, nat_lt, ◌⊎◌, inl, inr, ⊎_elim, List, [], ◌∷◌, length, slice_get, Option, Some, None, refl, ap, sym, subst, ◌∙◌, arith, le-ltb, eqb-true, add-zero}
 use Rattle.std.specs.List.{cons_option, list_any}
-use Rattle.std.proofs.lemmas.Bool.{and_parts, or_cases, false≢true, eqb-false}
+use Rattle.std.proofs.lemmas.Bool.{and_parts, and_right, or_cases, false≢true}
 use Rattle.mask_circuit.specs.declared.gates.Gate.{Gate}
 use Rattle.mask_circuit.specs.declared.gates.Gate.TheVariants.{Zero, One, Xor, Not, And, Ref}
 use Rattle.mask_circuit.specs.Netlist.{Netlist}
-use Rattle.mask_circuit.specs.Wires.{Wire, Share, Product, Fresh, Left, Right, Partial}
+use Rattle.mask_circuit.specs.Wires.{Wire, Share}
 use Rattle.mask_circuit.specs.Expansion.{Place}
 use Rattle.mask_circuit.specs.Probing.{same_wire}
-use Rattle.mask_circuit.specs.Need.{ShareSet, is_share, inner_probes, probed_shares, is_of_row, product_rows, demands_left, demands_right, left_need, is_update_of, refresh_need}
-use Rattle.mask_circuit.specs.Acceptance.{gate_at, Reaches, FromLeft, FromRight, FromNegated, IsShared, IsAccepted}
+use Rattle.mask_circuit.specs.Need.{ShareSet, is_share, inner_probes, probed_shares, is_of_row, demands_left, demands_right, left_need, is_update_of, refresh_need}
+use Rattle.mask_circuit.specs.Acceptance.{gate_at, Reaches, FromLeft, FromRight, FromNegated, IsAccepted}
+use Rattle.mask_laws.proofs.Sets.{list_any-or}
+use Rattle.mask_laws.proofs.Needs.{row_of, left_owner, right_of, right_owner, update_is}
 use Rattle.mask_laws.proofs.Demands.{right_part, demand_part, need_part}
 
 -- these are the circuit's gates from value n on
@@ -56,27 +58,27 @@ demand_part-closed c T L M closed One n O here own v i d = absurd (false≢true 
 demand_part-closed c T L M closed (Xor u w) n O here own v i d =
     let both = and_parts (v == u || v == w) (O i) d in
     ⊎_elim
-        (λ e. subst (λ (z : ℕ). M z i) (sym (eqb-true v u e)) (closed.left_of_xor n u w i here (own i both.1)))
-        (λ e. subst (λ (z : ℕ). M z i) (sym (eqb-true v w e)) (closed.right_of_xor n u w i here (own i both.1)))
-        (or_cases (v == u) (v == w) both.0)
+    (λ e. subst (λ (z : ℕ). M z i) (sym (eqb-true v u e)) (closed.left_of_xor n u w i here (own i both.1)))
+    (λ e. subst (λ (z : ℕ). M z i) (sym (eqb-true v w e)) (closed.right_of_xor n u w i here (own i both.1)))
+    (or_cases (v == u) (v == w) both.0)
 demand_part-closed c T L M closed (Not u) n O here own v i d =
     let both = and_parts (v == u) (O i) d in
     subst (λ (z : ℕ). M z i) (sym (eqb-true v u both.0)) (closed.negated n u i here (own i both.1))
 demand_part-closed c T L M closed (And u w) n O here own v i d = ⊎_elim
     (λ e.
-        let both = and_parts (v == u) (left_need (inner_probes n L) i) e in
-        subst (λ (z : ℕ). M z i) (sym (eqb-true v u both.0)) (closed.left_of_product n u w i here both.1))
+    let both = and_parts (v == u) (left_need (inner_probes n L) i) e in
+    subst (λ (z : ℕ). M z i) (sym (eqb-true v u both.0)) (closed.left_of_product n u w i here both.1))
     (λ e.
-        let both = and_parts (v == w) (right_part (T n) (inner_probes n L) i) e in
-        subst (λ (z : ℕ). M z i) (sym (eqb-true v w both.0)) (closed.right_of_product n u w i here both.1))
+    let both = and_parts (v == w) (right_part (T n) (inner_probes n L) i) e in
+    subst (λ (z : ℕ). M z i) (sym (eqb-true v w both.0)) (closed.right_of_product n u w i here both.1))
     (or_cases (v == u && left_need (inner_probes n L) i) (v == w && right_part (T n) (inner_probes n L) i) d)
 demand_part-closed c T L M closed (Ref u) n O here own v i d =
     let both = and_parts (v == u) (refresh_need (inner_probes n L) i) d in
     subst (λ (z : ℕ). M z i) (sym (eqb-true v u both.0)) (closed.refreshed n u i here both.1)
 
 -- .. and of all that gates demand
-pub need_part-closed : (c : Netlist) (T : ℕ → ShareSet) (L : List Place) (M : ℕ → ℕ → Type 0) → IsClosed c T L M → (gs : List Gate) (n : ℕ) → AreGatesAt c gs n →
-    (v i : ℕ) → need_part T L gs n v i ≡ true → M v i
+pub need_part-closed : (c : Netlist) (T : ℕ → ShareSet) (L : List Place) (M : ℕ → ℕ → Type 0) → IsClosed c T L M →
+    (gs : List Gate) (n : ℕ) → AreGatesAt c gs n → (v i : ℕ) → need_part T L gs n v i ≡ true → M v i
 need_part-closed c T L M closed [] n at v i d = closed.probed v i d
 need_part-closed c T L M closed (g ∷ gs) n at v i d = ⊎_elim
     (λ e. need_part-closed c T L M closed gs (suc n) at.1 v i e)
@@ -97,7 +99,8 @@ pub record IsConfined (c : Netlist) (T : ℕ → ShareSet) (p : Place) : Type 1 
   pub closed : IsClosed c T (p ∷ []) (Confined c a b X Y)
 
 -- what is confined at a value is so at one that reaches no more
-Confined-below : (c : Netlist) (a b : ℕ) (X Y : ℕ → Type 0) (v u i : ℕ) → ((s : ℕ) → Reaches c u s → Reaches c v s) → Confined c a b X Y v i → Confined c a b X Y u i
+Confined-below : (c : Netlist) (a b : ℕ) (X Y : ℕ → Type 0) (v u i : ℕ) → ((s : ℕ) → Reaches c u s → Reaches c v s) →
+    Confined c a b X Y v i → Confined c a b X Y u i
 Confined-below c a b X Y v u i up (inl (e, h)) = inl (e, λ s r. h s (up s r))
 Confined-below c a b X Y v u i up (inr (e, h)) = inr (e, λ s r. h s (up s r))
 
@@ -108,6 +111,7 @@ at_most_one c T p confined gs n at s source i j d e = go (within i d) (within j 
   where
     within : (k : ℕ) → need_part T (p ∷ []) gs n s k ≡ true → Confined c confined.a confined.b confined.X confined.Y s k
     within k f = need_part-closed c T (p ∷ []) (Confined c confined.a confined.b confined.X confined.Y) confined.closed gs n at s k f
+
     go : Confined c confined.a confined.b confined.X confined.Y s i → Confined c confined.a confined.b confined.X confined.Y s j → i ≡ j
     go (inl (f, x)) (inl (g, y)) = f ∙ sym g
     go (inr (f, x)) (inr (g, y)) = f ∙ sym g
@@ -123,70 +127,20 @@ inner_probes-one m q w S here none = go (q == m) (is_share w) refl refl
     go true true e f = none
     go false d e f = none
 
--- the share of the first operand that a probe on this wire demands at most; of a refresh's operand too
-abbrev left_share : Wire → ℕ
-left_share (Share k) = 0
-left_share (Product k l) = k
-left_share (Fresh k l) = k
-left_share (Left k l) = 0
-left_share (Right k l) = l
-left_share (Partial k l) = k
-
--- the share of the second operand
-abbrev right_share : ShareSet → Wire → ℕ
-right_share T (Share k) = 0
-right_share T (Product k l) = l
-right_share T (Fresh k l) = k
-right_share T (Left k l) = cond (T k) l k
-right_share T (Right k l) = l
-right_share T (Partial k l) = k
-
-left_share-of_row : (w : Wire) (i : ℕ) → is_of_row i w ≡ true → i ≡ left_share w
-left_share-of_row (Share k) i h = absurd (false≢true h)
-left_share-of_row (Product k l) i h = sym (eqb-true k i (and_parts (k == i) (l == i) h).0)
-left_share-of_row (Fresh k l) i h = sym (eqb-true k i h)
-left_share-of_row (Left k l) i h = absurd (false≢true h)
-left_share-of_row (Right k l) i h = sym (eqb-true l i h)
-left_share-of_row (Partial k l) i h = sym (eqb-true k i h)
-
-right_share-of_row : (T : ShareSet) (w : Wire) (i : ℕ) → is_of_row i w ≡ true → i ≡ right_share T w
-right_share-of_row T (Share k) i h = absurd (false≢true h)
-right_share-of_row T (Product k l) i h = sym (eqb-true l i (and_parts (k == i) (l == i) h).1)
-right_share-of_row T (Fresh k l) i h = sym (eqb-true k i h)
-right_share-of_row T (Left k l) i h = absurd (false≢true h)
-right_share-of_row T (Right k l) i h = sym (eqb-true l i h)
-right_share-of_row T (Partial k l) i h = sym (eqb-true k i h)
-
-left_share-demanded : (w : Wire) (i : ℕ) → demands_left i w ≡ true → i ≡ left_share w
-left_share-demanded (Product k l) i h = sym (eqb-true k i h)
-left_share-demanded w i h = absurd (false≢true h)
-
--- v_kl demands one share where one of its rows is touched, and none else
-right_share-crossed : (x y : Bool) (k l i : ℕ) → ((x && not y && l == i) || (y && not x && k == i)) ≡ true → i ≡ cond x l k
-right_share-crossed true true k l i h = absurd (false≢true h)
-right_share-crossed false false k l i h = absurd (false≢true h)
-right_share-crossed false true k l i h = sym (eqb-true k i h)
-right_share-crossed true false k l i h = ⊎_elim (λ e. sym (eqb-true l i e)) (λ e. absurd (false≢true e)) (or_cases (l == i) false h)
-
-right_share-demanded : (T : ShareSet) (w : Wire) (i : ℕ) → demands_right T i w ≡ true → i ≡ right_share T w
-right_share-demanded T (Product k l) i h = sym (eqb-true l i h)
-right_share-demanded T (Left k l) i h = right_share-crossed (T k) (T l) k l i h
-right_share-demanded T w i h = absurd (false≢true h)
-
 list_any-one : {A : Type 0} (test : A → Bool) (a : A) → list_any test (a ∷ []) ≡ true → test a ≡ true
 list_any-one test a h = ⊎_elim (λ e. e) (λ e. absurd (false≢true e)) (or_cases (test a) false h)
 
-left_share-need : (w : Wire) (i : ℕ) → left_need (w ∷ []) i ≡ true → i ≡ left_share w
-left_share-need w i h = ⊎_elim (λ e. left_share-of_row w i (list_any-one (is_of_row i) w e)) (λ e. left_share-demanded w i (list_any-one (demands_left i) w e))
-    (or_cases (product_rows (w ∷ []) i) (list_any (demands_left i) (w ∷ [])) h)
+one_probed : (p : Place) (v i : ℕ) → probed_shares (p ∷ []) v i ≡ true → (p.0 == v && same_wire (Share i) p.1) ≡ true
+one_probed p v i h = list_any-one (λ (q : Place). q.0 == v && same_wire (Share i) q.1) p h
 
-right_share-part : (T : ShareSet) (w : Wire) (i : ℕ) → right_part T (w ∷ []) i ≡ true → i ≡ right_share T w
-right_share-part T w i h = ⊎_elim (λ e. right_share-of_row T w i (list_any-one (is_of_row i) w e)) (λ e. right_share-demanded T w i (list_any-one (demands_right T i) w e))
-    (or_cases (product_rows (w ∷ []) i) (list_any (demands_right T i) (w ∷ [])) h)
+-- a single inner probe on a product demands one share of either operand
+one_left : (w : Wire) (i : ℕ) → left_need (w ∷ []) i ≡ true → i ≡ row_of w
+one_left w i h = left_owner i w
+    (list_any-one (λ q. is_of_row i q || demands_left i q) w (sym (list_any-or (is_of_row i) (demands_left i) (w ∷ [])) ∙ h))
 
-left_share-update : (w : Wire) (i : ℕ) → is_update_of i w ≡ true → i ≡ left_share w
-left_share-update (Partial k l) i h = sym (eqb-true k i h)
-left_share-update w i h = absurd (false≢true h)
+one_right : (T : ShareSet) (w : Wire) (i : ℕ) → right_part T (w ∷ []) i ≡ true → i ≡ right_of T w
+one_right T w i h = right_owner T i w
+    (list_any-one (λ q. is_of_row i q || demands_right T i q) w (sym (list_any-or (is_of_row i) (demands_right T i) (w ∷ [])) ∙ h))
 
 -- a wire that is no share is not a share
 pub same_wire-inner : (w : Wire) (i : ℕ) → is_share w ≡ false → same_wire (Share i) w ≡ false
@@ -216,13 +170,20 @@ confined_by c T p a b X Y apart probed left right refreshed = record {
   };
 }
 
--- a probed share k demands share k alone
+-- a probed share is no inner probe ..
+inner_probes-share : (m q k : ℕ) → inner_probes m ((q, Share k) ∷ []) ≡ []
+inner_probes-share m q k = ap (λ (b : Bool). cons_option (cond b (Some (Share k)) None) []) (and_right (q == m) false refl)
+
+-- .. and demands itself alone
 share_confined : (c : Netlist) (T : ℕ → ShareSet) (q k : ℕ) → IsConfined c T (q, Share k)
 share_confined c T q k = confined_by c T (q, Share k) k k (λ s. Unit {0}) (λ s. ⊥) (λ s x y. y)
-    (λ v i h. inl (eqb-true i k (and_parts (q == v) (i == k) (list_any-one (λ (p : Place). p.0 == v && same_wire (Share i) p.1) (q, Share k) h)).1, λ s r. tt))
-    (λ m u w i h. inner_probes-one m q (Share k) (λ Q. left_need Q i ≡ true → Confined c k k (λ s. Unit {0}) (λ s. ⊥) u i) (λ e f d. absurd (false≢true (sym f))) (λ d. absurd (false≢true d)))
-    (λ m u w i h. inner_probes-one m q (Share k) (λ Q. right_part (T m) Q i ≡ true → Confined c k k (λ s. Unit {0}) (λ s. ⊥) w i) (λ e f d. absurd (false≢true (sym f))) (λ d. absurd (false≢true d)))
-    (λ m u i h. inner_probes-one m q (Share k) (λ Q. refresh_need Q i ≡ true → Confined c k k (λ s. Unit {0}) (λ s. ⊥) u i) (λ e f d. absurd (false≢true (sym f))) (λ d. absurd (false≢true d)))
+    (λ v i h. inl (eqb-true i k (and_parts (q == v) (i == k) (one_probed (q, Share k) v i h)).1, λ s r. tt))
+    (λ m u w i h d. none m (λ Q. left_need Q i) refl d)
+    (λ m u w i h d. none m (λ Q. right_part (T m) Q i) refl d)
+    (λ m u i h d. none m (λ Q. refresh_need Q i) refl d)
+  where
+    none : {A : Type 0} (m : ℕ) (test : List Wire → Bool) → test [] ≡ false → test (inner_probes m ((q, Share k) ∷ [])) ≡ true → A
+    none m test e d = absurd (false≢true (sym (ap test (inner_probes-share m q k) ∙ e) ∙ d))
 
 -- an inner probe demands shares at its own gate alone
 inner_confined : (c : Netlist) (T : ℕ → ShareSet) (q : ℕ) (w : Wire) (a b : ℕ) (X Y : ℕ → Type 0) → is_share w ≡ false → ((s : ℕ) → X s → Y s → ⊥) →
@@ -230,33 +191,34 @@ inner_confined : (c : Netlist) (T : ℕ → ShareSet) (q : ℕ) (w : Wire) (a b 
     ((u v i : ℕ) → gate_at c q ≡ Some (And u v) → right_part (T q) (w ∷ []) i ≡ true → Confined c a b X Y v i) →
     ((u i : ℕ) → gate_at c q ≡ Some (Ref u) → refresh_need (w ∷ []) i ≡ true → Confined c a b X Y u i) → IsConfined c T (q, w)
 inner_confined c T q w a b X Y inner apart left right refreshed = confined_by c T (q, w) a b X Y apart
-    (λ v i h. absurd (false≢true (sym (same_wire-inner w i inner) ∙ (and_parts (q == v) (same_wire (Share i) w) (list_any-one (λ (p : Place). p.0 == v && same_wire (Share i) p.1) (q, w) h)).1)))
+    (λ v i h. absurd (false≢true (sym (same_wire-inner w i inner) ∙ (and_parts (q == v) (same_wire (Share i) w) (one_probed (q, w) v i h)).1)))
     (λ m u v i h. inner_probes-one m q w (λ Q. left_need Q i ≡ true → Confined c a b X Y u i)
-        (λ e f d. left u v i (ap (gate_at c) e ∙ h) d) (λ d. absurd (false≢true d)))
+    (λ e f d. left u v i (ap (gate_at c) e ∙ h) d) (λ d. absurd (false≢true d)))
     (λ m u v i h. inner_probes-one m q w (λ Q. right_part (T m) Q i ≡ true → Confined c a b X Y v i)
-        (λ e f d. right u v i (ap (gate_at c) e ∙ h) (subst (λ (z : ℕ). right_part (T z) (w ∷ []) i ≡ true) (sym e) d)) (λ d. absurd (false≢true d)))
+    (λ e f d. right u v i (ap (gate_at c) e ∙ h) (subst (λ (z : ℕ). right_part (T z) (w ∷ []) i ≡ true) (sym e) d)) (λ d. absurd (false≢true d)))
     (λ m u i h. inner_probes-one m q w (λ Q. refresh_need Q i ≡ true → Confined c a b X Y u i)
-        (λ e f d. refreshed u i (ap (gate_at c) e ∙ h) d) (λ d. absurd (false≢true d)))
+    (λ e f d. refreshed u i (ap (gate_at c) e ∙ h) d) (λ d. absurd (false≢true d)))
 
 -- a gate is of one kind, and has its operands
 same_product : {u v u' v' : ℕ} → Some (And u v) ≡ Some (And u' v') → (u ≡ u') × (v ≡ v')
 same_product e = (cc, cc)
 
 -- in an accepted circuit what an inner probe demands of a product's operands is above sources that are apart
-inner_probe_confined : (c : Netlist) (T : ℕ → ShareSet) (q : ℕ) (w : Wire) → IsAccepted c → is_share w ≡ false → (o : Option Gate) → gate_at c q ≡ o → IsConfined c T (q, w)
-inner_probe_confined c T q w accepted inner (Some (And u v)) e = inner_confined c T q w (left_share w) (right_share (T q) w) (Reaches c u) (Reaches c v) inner
+inner_probe_confined : (c : Netlist) (T : ℕ → ShareSet) (q : ℕ) (w : Wire) → IsAccepted c → is_share w ≡ false →
+    (o : Option Gate) → gate_at c q ≡ o → IsConfined c T (q, w)
+inner_probe_confined c T q w accepted inner (Some (And u v)) e = inner_confined c T q w (row_of w) (right_of (T q) w) (Reaches c u) (Reaches c v) inner
     (λ s x y. accepted q s (record { left = u; right = v; is_product = e; left_reaches = x; right_reaches = y }))
-    (λ u' v' i h d. inl (left_share-need w i d, λ s r. subst (λ (z : ℕ). Reaches c z s) (same_product (sym h ∙ e)).0 r))
-    (λ u' v' i h d. inr (right_share-part (T q) w i d, λ s r. subst (λ (z : ℕ). Reaches c z s) (same_product (sym h ∙ e)).1 r))
-    (λ u' i h d. absurd (let no = sym h ∙ e in cc))
-inner_probe_confined c T q w accepted inner (Some (Ref u)) e = inner_confined c T q w (left_share w) (left_share w) (λ s. Unit {0}) (λ s. ⊥) inner (λ s x y. y)
-    (λ u' v' i h d. absurd (let no = sym h ∙ e in cc))
-    (λ u' v' i h d. absurd (let no = sym h ∙ e in cc))
-    (λ u' i h d. inl (left_share-update w i (list_any-one (is_update_of i) w d), λ s r. tt))
+    (λ u' v' i h d. inl (one_left w i d, λ s r. subst (λ (z : ℕ). Reaches c z s) (same_product (sym h ∙ e)).0 r))
+    (λ u' v' i h d. inr (one_right (T q) w i d, λ s r. subst (λ (z : ℕ). Reaches c z s) (same_product (sym h ∙ e)).1 r))
+    (λ u' i h d. absurd (let other_kind = sym h ∙ e in cc))
+inner_probe_confined c T q w accepted inner (Some (Ref u)) e = inner_confined c T q w (row_of w) (row_of w) (λ s. Unit {0}) (λ s. ⊥) inner (λ s x y. y)
+    (λ u' v' i h d. absurd (let other_kind = sym h ∙ e in cc))
+    (λ u' v' i h d. absurd (let other_kind = sym h ∙ e in cc))
+    (λ u' i h d. inl (update_is i w (list_any-one (is_update_of i) w d), λ s r. tt))
 inner_probe_confined c T q w accepted inner o e = inner_confined c T q w 0 0 (λ s. Unit {0}) (λ s. ⊥) inner (λ s x y. y)
-    (λ u' v' i h d. absurd (let no = sym h ∙ e in cc))
-    (λ u' v' i h d. absurd (let no = sym h ∙ e in cc))
-    (λ u' i h d. absurd (let no = sym h ∙ e in cc))
+    (λ u' v' i h d. absurd (let other_kind = sym h ∙ e in cc))
+    (λ u' v' i h d. absurd (let other_kind = sym h ∙ e in cc))
+    (λ u' i h d. absurd (let other_kind = sym h ∙ e in cc))
 
 -- in an accepted circuit each probe is confined
 pub probe_confined : (c : Netlist) (T : ℕ → ShareSet) (p : Place) → IsAccepted c → IsConfined c T p

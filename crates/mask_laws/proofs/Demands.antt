@@ -1,7 +1,7 @@
 -- The demands of a list of probes are those of its parts.
 --
 -- Which row of a product is touched is a matter of all probes, T below; apart from that each probe demands by itself.
-use Rattle.std.proofs.Common.{◌≡◌, ℕ, zero, suc, ◌+◌, ◌<◌, ◌≤◌, Bool, true, false, ◌&&◌, ◌||◌, ◌==◌, List, [], ◌∷◌, ◌++◌, refl, ap, ap₂, sym, subst, ◌∙◌, ⊎_elim, eqb-true}
+use Rattle.std.proofs.Common.{◌≡◌, ℕ, suc, ◌<◌, Bool, true, false, ◌&&◌, ◌||◌, ◌==◌, List, [], ◌∷◌, ◌++◌, refl, ap, ap₂, sym, subst, ◌∙◌, ⊎_elim, eqb-true}
 use Rattle.std.specs.List.{list_any}
 use Rattle.std.proofs.lemmas.Bool.{and_parts, or_cases, false≢true}
 use Rattle.std.proofs.lemmas.List.Elements.{filter_map-append}
@@ -12,7 +12,7 @@ use Rattle.mask_circuit.specs.Netlist.{OperandsBelow}
 use Rattle.mask_circuit.specs.Wires.{Wire, Share}
 use Rattle.mask_circuit.specs.Expansion.{Place}
 use Rattle.mask_circuit.specs.Probing.{ShareSets, same_wire}
-use Rattle.mask_circuit.specs.Need.{ShareSet, inner_probes, probed_shares, is_of_row, product_rows, demands_left, demands_right, left_need, right_need, is_update_of, refresh_need, demand, need_from}
+use Rattle.mask_circuit.specs.Need.{ShareSet, inner_probes, probed_shares, is_of_row, product_rows, demands_left, demands_right, left_need, is_update_of, refresh_need, demand, need_from}
 
 -- the shares of a product's second operand that the probes Q demand, where the rows T are touched
 abbrev pub right_part : ShareSet → List Wire → ShareSet
@@ -108,7 +108,7 @@ pub need_part-append : (T : ℕ → ShareSet) (L L' : List Place) (gs : List Gat
 need_part-append T L L' [] n v i = list_any-append (λ p. p.0 == v && same_wire (Share i) p.1) L L'
 need_part-append T L L' (g ∷ gs) n v i =
     or_both _ (need_part T L gs (suc n) v i) (need_part T L' gs (suc n) v i) _
-        (demand_part (T n) g (inner_probes n L) (need_part T L gs (suc n) n) v i) (demand_part (T n) g (inner_probes n L') (need_part T L' gs (suc n) n) v i)
-        (need_part-append T L L' gs (suc n) v i)
-        (ap₂ (λ (Q : List Wire) (O : ShareSet). demand_part (T n) g Q O v i) (inner_probes-append n L L') (λ d j. need_part-append T L L' gs (suc n) n j d)
-         ∙ demand_part-append (T n) g (inner_probes n L) (inner_probes n L') (need_part T L gs (suc n) n) (need_part T L' gs (suc n) n) v i)
+    (demand_part (T n) g (inner_probes n L) (need_part T L gs (suc n) n) v i) (demand_part (T n) g (inner_probes n L') (need_part T L' gs (suc n) n) v i)
+    (need_part-append T L L' gs (suc n) v i)
+    (ap₂ (λ (Q : List Wire) (O : ShareSet). demand_part (T n) g Q O v i) (inner_probes-append n L L') (λ d j. need_part-append T L L' gs (suc n) n j d)
+    ∙ demand_part-append (T n) g (inner_probes n L) (inner_probes n L') (need_part T L gs (suc n) n) (need_part T L' gs (suc n) n) v i)

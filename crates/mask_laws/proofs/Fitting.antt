@@ -1,14 +1,14 @@
 -- Few probes of an accepted circuit fit.
-use Rattle.std.proofs.Common.{◌≡◌, ℕ, zero, suc, ◌+◌, ◌<◌, ◌≤◌, Bool, true, false, cond, not, ◌&&◌, ◌||◌, ◌==◌, ◌⊎◌, inl, inr, List, [], ◌∷◌, ◌++◌, length, Some, None, refl, ap, ap₂, sym, subst, ◌∙◌, arith, eqb-true, ne_eqb, length-append}
-use Rattle.std.specs.List.{cons_option, list_any}
+use Rattle.std.proofs.Common.{◌≡◌, ℕ, zero, suc, ◌+◌, ◌<◌, ◌≤◌, Bool, true, false, cond, not, ◌&&◌, ◌||◌, ◌==◌, ◌⊎◌, inl, inr, List, [], ◌∷◌, length, Some, None, refl, ap, ap₂, sym, subst, ◌∙◌, arith, eqb-true, ne_eqb, length-append}
+use Rattle.std.specs.List.{cons_option}
 use Rattle.std.proofs.lemmas.Bool.{and_parts, and_right, not-true, cases_lt, false_from_ne_true}
 use Rattle.mask_circuit.specs.declared.gates.Gate.{Gate}
 use Rattle.mask_circuit.specs.declared.gates.Gate.TheVariants.{Zero, One, Xor, Not, And, Ref}
 use Rattle.mask_circuit.specs.Netlist.{Netlist, AreGates}
-use Rattle.mask_circuit.specs.Wires.{Wire, Share, Product, Fresh, Left, Right, Partial}
+use Rattle.mask_circuit.specs.Wires.{Wire, Share}
 use Rattle.mask_circuit.specs.Expansion.{Place}
 use Rattle.mask_circuit.specs.Probing.{size, same_wire}
-use Rattle.mask_circuit.specs.Need.{ShareSet, is_share, inner_probes, probed_shares, need_from}
+use Rattle.mask_circuit.specs.Need.{ShareSet, is_share, inner_probes, need_from}
 use Rattle.mask_circuit.specs.Acceptance.{gate_at, Reaches, ProductHere, RefreshHere, IsAccepted}
 use Rattle.mask_laws.specs.Circuits.{FitsAt, FitsFrom}
 use Rattle.mask_laws.proofs.Sets.{size-mono, size-none, size-or}
@@ -24,9 +24,7 @@ size-at_most_one (suc n) f h = go (f n) refl (size-at_most_one n f h)
     go : (b : Bool) → f n ≡ b → size n f ≤ 1 → size n f + cond b 1 0 ≤ 1
     go false e small = omega arith
     go true e small =
-        let outside : (i : ℕ) (b : Bool) → f i ≡ b → i < n → b ≡ false
-                = λ i b. (elim b as (λ (c : Bool). f i ≡ c → i < n → c ≡ false) [ true ↦ λ k l. absurd (let same : i ≡ n = h i n k e in omega arith) | false ↦ λ k l. refl ]) in
-        let none : size n f ≡ 0 = size-none n f (λ i k. outside i (f i) refl k) in
+        let none : size n f ≡ 0 = size-none n f (λ i k. false_from_ne_true (f i) (λ d. let same : i ≡ n = h i n d e in omega arith)) in
         omega arith
 
 -- a gate with no inner probes and no demanded shares demands nothing
@@ -46,11 +44,12 @@ need_part-none T (g ∷ gs) n v i =
     ∙ demand_part-none (T n) g v i
 
 -- an inner probe of an earlier value demands nothing of later gates
-need_part-past : (T : ℕ → ShareSet) (q : ℕ) (w : Wire) (gs : List Gate) (n v i : ℕ) → is_share w ≡ false → q < n → need_part T ((q, w) ∷ []) gs n v i ≡ false
+need_part-past : (T : ℕ → ShareSet) (q : ℕ) (w : Wire) (gs : List Gate) (n v i : ℕ) → is_share w ≡ false → q < n →
+    need_part T ((q, w) ∷ []) gs n v i ≡ false
 need_part-past T q w [] n v i inner past = ap (λ (b : Bool). b || false) (and_right (q == v) (same_wire (Share i) w) (same_wire-inner w i inner))
 need_part-past T q w (g ∷ gs) n v i inner past =
     ap₂ (λ (b : Bool) (O : ShareSet). b || demand_part (T n) g (inner_probes n ((q, w) ∷ [])) O v i)
-        (need_part-past T q w gs (suc n) v i inner (omega arith)) (λ d j. need_part-past T q w gs (suc n) n j inner (omega arith) d)
+    (need_part-past T q w gs (suc n) v i inner (omega arith)) (λ d j. need_part-past T q w gs (suc n) n j inner (omega arith) d)
     ∙ ap (λ (Q : List Wire). demand_part (T n) g Q (λ j. false) v i) elsewhere
     ∙ demand_part-none (T n) g v i
   where
@@ -58,19 +57,22 @@ need_part-past T q w (g ∷ gs) n v i inner past =
     elsewhere = ap (λ (b : Bool). cons_option (cond (b && not (is_share w)) (Some w) None) []) (ne_eqb q n (λ e. omega arith))
 
 -- nor does it of its own value
-need_part-own : (T : ℕ → ShareSet) (q : ℕ) (w : Wire) (gs : List Gate) (n i : ℕ) → is_share w ≡ false → AreGates n gs → need_part T ((q, w) ∷ []) gs n q i ≡ false
+need_part-own : (T : ℕ → ShareSet) (q : ℕ) (w : Wire) (gs : List Gate) (n i : ℕ) → is_share w ≡ false → AreGates n gs →
+    need_part T ((q, w) ∷ []) gs n q i ≡ false
 need_part-own T q w [] n i inner are = ap (λ (b : Bool). b || false) (and_right (q == q) (same_wire (Share i) w) (same_wire-inner w i inner))
 need_part-own T q w (g ∷ gs) n i inner are = go (cases_lt q n) (need_part-own T q w gs (suc n) i inner are.1)
   where
     O : ShareSet
     O = need_part T ((q, w) ∷ []) gs (suc n) n
+
     go : (q < n) ⊎ (n ≤ q) → need_part T ((q, w) ∷ []) gs (suc n) q i ≡ false → need_part T ((q, w) ∷ []) (g ∷ gs) n q i ≡ false
     go (inl past) none = need_part-past T q w (g ∷ gs) n q i inner past
     go (inr later) none = ap₂ (λ (a b : Bool). a || b) none (false_from_ne_true (demand_part (T n) g (inner_probes n ((q, w) ∷ [])) O q i)
         (λ d. let below = demand_part-below (T n) n g (inner_probes n ((q, w) ∷ [])) O q i are.0 d in omega arith))
 
 -- one probe: at a source either it is an inner probe, or it demands at most one share
-one_at_source : (c : Netlist) (T : ℕ → ShareSet) (N : ℕ) (p : Place) → IsConfined c T p → (gs : List Gate) (n : ℕ) → AreGatesAt c gs n → AreGates n gs → (s : ℕ) → Reaches c s s →
+one_at_source : (c : Netlist) (T : ℕ → ShareSet) (N : ℕ) (p : Place) → IsConfined c T p →
+    (gs : List Gate) (n : ℕ) → AreGatesAt c gs n → AreGates n gs → (s : ℕ) → Reaches c s s →
     length (inner_probes s (p ∷ [])) + size N (need_part T (p ∷ []) gs n s) ≤ 1
 one_at_source c T N p confined gs n at are s source = go (is_inner_at s p) refl
   where
@@ -79,32 +81,34 @@ one_at_source c T N p confined gs n at are s source = go (is_inner_at s p) refl
         let both = and_parts (p.0 == s) (not (is_share p.1)) e in
         let here : p.0 ≡ s = eqb-true p.0 s both.0 in
         let none : size N (need_part T (p ∷ []) gs n s) ≡ 0
-                = size-none N (need_part T (p ∷ []) gs n s)
-                    (λ i k. subst (λ (v : ℕ). need_part T (p ∷ []) gs n v i ≡ false) here (need_part-own T p.0 p.1 gs n i (not-true (is_share p.1) both.1) are)) in
+        = size-none N (need_part T (p ∷ []) gs n s)
+        (λ i k. subst (λ (v : ℕ). need_part T (p ∷ []) gs n v i ≡ false) here (need_part-own T p.0 p.1 gs n i (not-true (is_share p.1) both.1) are)) in
         omega arith
     go false e = let one = size-at_most_one N (need_part T (p ∷ []) gs n s) (at_most_one c T p confined gs n at s source) in omega arith
 
 -- a list of probes: their inner probes at a source and their demanded shares of it are no more than the probes
-pub all_at_source : (c : Netlist) (T : ℕ → ShareSet) (N : ℕ) → ((p : Place) → IsConfined c T p) → (L : List Place) (gs : List Gate) (n : ℕ) → AreGatesAt c gs n → AreGates n gs →
-    (s : ℕ) → Reaches c s s → length (inner_probes s L) + size N (need_part T L gs n s) ≤ length L
+pub all_at_source : (c : Netlist) (T : ℕ → ShareSet) (N : ℕ) → ((p : Place) → IsConfined c T p) →
+    (L : List Place) (gs : List Gate) (n : ℕ) → AreGatesAt c gs n → AreGates n gs → (s : ℕ) → Reaches c s s → length (inner_probes s L) + size N (need_part T L gs n s) ≤ length L
 all_at_source c T N confined [] gs n at are s source =
     let none : size N (need_part T [] gs n s) ≡ 0 = size-none N (need_part T [] gs n s) (λ i k. need_part-none T gs n s i) in omega arith
 all_at_source c T N confined (p ∷ L) gs n at are s source =
     let first = one_at_source c T N p (confined p) gs n at are s source in
     let others = all_at_source c T N confined L gs n at are s source in
     let inner : length (inner_probes s (p ∷ L)) ≡ length (inner_probes s (p ∷ [])) + length (inner_probes s L)
-            = ap length (inner_probes-append s (p ∷ []) L) ∙ length-append (inner_probes s (p ∷ [])) (inner_probes s L) in
+    = ap length (inner_probes-append s (p ∷ []) L) ∙ length-append (inner_probes s (p ∷ [])) (inner_probes s L) in
     let union : size N (need_part T (p ∷ L) gs n s) ≤ size N (λ i. need_part T (p ∷ []) gs n s i || need_part T L gs n s i)
-            = size-mono N _ _ (λ i k d. sym (need_part-append T (p ∷ []) L gs n s i) ∙ d) in
+    = size-mono N _ _ (λ i k d. sym (need_part-append T (p ∷ []) L gs n s i) ∙ d) in
     let small = size-or N (need_part T (p ∷ []) gs n s) (need_part T L gs n s) in
     omega arith
 
 -- In an accepted circuit the inner probes and the demanded shares of each source are together no more than the probes.
-pub source_count : (c : Netlist) (N : ℕ) (P : List Place) → IsAccepted c → (gs : List Gate) (n : ℕ) → AreGatesAt c gs n → AreGates n gs → (s : ℕ) → Reaches c s s →
+pub source_count : (c : Netlist) (N : ℕ) (P : List Place) → IsAccepted c →
+    (gs : List Gate) (n : ℕ) → AreGatesAt c gs n → AreGates n gs → (s : ℕ) → Reaches c s s →
     length (inner_probes s P) + size N (need_from P gs n s) ≤ length P
 source_count c N P accepted gs n at are s source =
     let all = all_at_source c (touched P) N (λ p. probe_confined c (touched P) p accepted) P gs n at are s source in
-    let same : size N (need_from P gs n s) ≤ size N (need_part (touched P) P gs n s) = size-mono N _ _ (λ i k d. sym (need_from-part P gs n s i) ∙ d) in
+    let same : size N (need_from P gs n s) ≤ size N (need_part (touched P) P gs n s)
+    = size-mono N _ _ (λ i k d. sym (need_from-part P gs n s i) ∙ d) in
     omega arith
 
 -- so fewer probes than shares fit ..
@@ -118,7 +122,8 @@ FitsAt-accepted c N P accepted few (And u v) gs n here at are = let count = sour
 FitsAt-accepted c N P accepted few (Ref u) gs n here at are = let count = source_count c N P accepted gs (suc n) at are n (RefreshHere here) in omega arith
 
 -- .. at each gate
-pub FitsFrom-accepted : (c : Netlist) (N : ℕ) (P : List Place) → IsAccepted c → length P < N → (gs : List Gate) (n : ℕ) → AreGatesAt c gs n → AreGates n gs → FitsFrom N P gs n
+pub FitsFrom-accepted : (c : Netlist) (N : ℕ) (P : List Place) → IsAccepted c → length P < N →
+    (gs : List Gate) (n : ℕ) → AreGatesAt c gs n → AreGates n gs → FitsFrom N P gs n
 FitsFrom-accepted c N P accepted few [] n at are = tt
 FitsFrom-accepted c N P accepted few (g ∷ gs) n at are =
     (FitsAt-accepted c N P accepted few g gs n at.0 at.1 are.1, FitsFrom-accepted c N P accepted few gs (suc n) at.1 are.1)

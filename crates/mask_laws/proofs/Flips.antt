@@ -1,14 +1,13 @@
 -- Flips: each demanded row that would change has a partner, and the flip of their bit touches nothing that is watched.
-use Rattle.std.proofs.Common.{◌≡◌, ◌≢◌, ℕ, zero, suc, ◌+◌, ◌<◌, ◌≤◌, ◌⊎◌, inl, inr, Bool, true, false, cond, not, ◌&&◌, ◌||◌, ◌==◌, nat_lt, List, [], ◌∷◌, length, Some, None, Option, refl, sym, ap, ◌∙◌, subst, true≢false, arith, eq-eqb, eqb-true, ne_eqb, lt-ltb, le-ltb}
+use Rattle.std.proofs.Common.{◌≡◌, ◌≢◌, ℕ, zero, suc, ◌+◌, ◌<◌, inl, inr, Bool, true, false, cond, not, ◌&&◌, ◌||◌, ◌==◌, nat_lt, List, length, Some, None, Option, refl, sym, ap, ◌∙◌, true≢false, arith, eq-eqb, eqb-true, lt-ltb, le-ltb}
 use Rattle.std.specs.List.{list_any}
-use Rattle.std.proofs.lemmas.Bool.{cases_lt, false_from_ne_true, and_parts, not-true, not-false, or_cases, or_left, or_right, or_from, eqb-false}
-use Rattle.mask_circuit.specs.Value.{xor}
+use Rattle.std.proofs.lemmas.Bool.{cases_lt, false_from_ne_true, and_parts, not-true, eqb-false}
 use Rattle.mask_circuit.specs.Wires.{Wire}
 use Rattle.mask_circuit.specs.Probing.{size, same_wire}
 use Rattle.mask_circuit.specs.Need.{ShareSet}
-use Rattle.mask_circuit.specs.Shift.{is_probed, wire_between, least, partner, is_some_of, flipped}
+use Rattle.mask_circuit.specs.Shift.{is_probed, wire_between, least, partner, is_some_of}
 use Rattle.mask_laws.proofs.Members.{below_cases}
-use Rattle.mask_laws.proofs.Sets.{size-mono, size-or, size-all, size-owned, list_any-or}
+use Rattle.mask_laws.proofs.Sets.{size-or, size-all, size-owned, list_any-or}
 
 -- THE LEAST NUMBER THAT PASSES
 
@@ -47,7 +46,7 @@ pub record IsPartner (n : ℕ) (wire : ℕ → ℕ → Wire) (Q : List Wire) (T 
   pub unprobed : is_probed Q (wire_between wire i k) ≡ false
 
 -- the partner of a row, if there is one, can serve
-partner-Some : (n : ℕ) (wire : ℕ → ℕ → Wire) (Q : List Wire) (T O : ShareSet) (i k : ℕ) → partner n wire Q T O i ≡ Some k → IsPartner n wire Q T O i k
+pub partner-Some : (n : ℕ) (wire : ℕ → ℕ → Wire) (Q : List Wire) (T O : ShareSet) (i k : ℕ) → partner n wire Q T O i ≡ Some k → IsPartner n wire Q T O i k
 partner-Some n wire Q T O i k found =
     let test : ℕ → Bool = λ j. not (j == i) && not (T j) && not (O j) && not (is_probed Q (wire_between wire i j)) in
     let h = least-Some test n k found in
@@ -71,17 +70,20 @@ has_partner n wire Q test O i owner own fits demanded = go (partner n wire Q (λ
   where
     kept : ℕ → Bool
     kept k = list_any (λ w. test k w || same_wire (wire_between wire i k) w) Q
+
     one_reason : (same touched demanded' probed : Bool) → (same ≡ true → demanded' ≡ true) → (not same && not touched && not demanded' && not probed) ≡ false → (demanded' || (touched || probed)) ≡ true
     one_reason same touched true probed h e = refl
     one_reason same true false probed h e = refl
     one_reason same false false true h e = refl
     one_reason true false false false h e = h refl
     one_reason false false false false h e = cc
+
     all_kept : partner n wire Q (λ j. list_any (test j) Q) O i ≡ None → (k : ℕ) → k < n → (O k || kept k) ≡ true
     all_kept none k lt =
         rw (← (list_any-or (test k) (same_wire (wire_between wire i k)) Q))
         (one_reason (k == i) (list_any (test k) Q) (O k) (is_probed Q (wire_between wire i k)) (λ e. rw (eqb-true k i e) demanded)
         (least-None (λ j. not (j == i) && not (list_any (test j) Q) && not (O j) && not (is_probed Q (wire_between wire i j))) n none k lt))
+
     go : (o : Option ℕ) → partner n wire Q (λ j. list_any (test j) Q) O i ≡ o → (k : ℕ) × (partner n wire Q (λ j. list_any (test j) Q) O i ≡ Some k)
     go (Some k) found = (k, found)
     go None none =
@@ -128,6 +130,39 @@ module _ (n : ℕ) (wire : ℕ → ℕ → Wire) (Q : List Wire) (T O : ShareSet
   pub flip-at_partner : (i j p : ℕ) → O i ≡ true → T i ≡ false → partner n wire Q T O i ≡ Some p → flip n wire Q T O changed i j ≡ (changed i && p == j)
   flip-at_partner i j p demanded untouched found = rw (demanded, untouched, found) refl
 
--- the wire between two rows doesn't depend on their order
+-- THE WIRE BETWEEN TWO ROWS
+
+-- what holds of the wire either way holds of it
+pub wire_between-is : (P : Wire → Type 0) (wire : ℕ → ℕ → Wire) (i k : ℕ) → P (wire i k) → P (wire k i) → P (wire_between wire i k)
+wire_between-is P wire i k forth back = go (nat_lt i k)
+  where
+    go : (b : Bool) → P (cond b (wire i k) (wire k i))
+    go true = forth
+    go false = back
+
+-- it doesn't depend on their order
 pub wire_between_comm : (wire : ℕ → ℕ → Wire) (i j : ℕ) → i ≢ j → wire_between wire i j ≡ wire_between wire j i
 wire_between_comm wire i j ne = elim (cases_lt i j) [ inl l ↦ rw (lt-ltb i j l, le-ltb j i (omega arith)) refl | inr g ↦ rw (le-ltb i j g, lt-ltb j i (omega arith)) refl ]
+
+-- the row at the other end of the wire between a and b, seen from row i
+pub other_end : ℕ → ℕ → ℕ → ℕ
+other_end i a b = cond (a == i) b a
+
+pub other_end-forth : (i k a b : ℕ) → (i == a && k == b) ≡ true → k ≡ other_end i a b
+unfolding other_end
+other_end-forth i k a b h =
+    let e = and_parts (i == a) (k == b) h in
+    let at = eq-eqb a i (sym (eqb-true i a e.0)) in
+    rw at (eqb-true k b e.1)
+
+pub other_end-back : (i k a b : ℕ) → (k == a && i == b) ≡ true → k ≡ other_end i a b
+unfolding other_end
+other_end-back i k a b h =
+    let e = and_parts (k == a) (i == b) h in
+    let first = eqb-true k a e.0 in
+    let second = eqb-true i b e.1 in
+    go (a == i) refl first second
+  where
+    go : (here : Bool) → (a == i) ≡ here → k ≡ a → i ≡ b → k ≡ cond here b a
+    go true at first second = first ∙ eqb-true a i at ∙ second
+    go false at first second = first

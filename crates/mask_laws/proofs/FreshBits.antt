@@ -1,5 +1,5 @@
 -- Fresh bits looked up by their pair.
-use Rattle.std.proofs.Common.{◌≡◌, ℕ, zero, suc, ◌+◌, ◌<◌, ◌≤◌, ◌⊎◌, inl, inr, Bool, true, false, cond, ◌&&◌, ◌==◌, List, [], ◌∷◌, length, map, Contains, refl, sym, ap, ◌∙◌, subst, arith, eq-eqb, eqb-true, length-append}
+use Rattle.std.proofs.Common.{◌≡◌, ℕ, ◌⊎◌, inl, inr, Bool, true, false, cond, ◌&&◌, ◌==◌, List, [], ◌∷◌, length, map, Contains, refl, ap, ◌∙◌, arith, eq-eqb, eqb-true}
 use Rattle.std.proofs.lemmas.Bool.{and_from, and_parts}
 use Rattle.std.proofs.lemmas.List.{length-map}
 use Rattle.mask_circuit.specs.Value.{xor}
@@ -7,7 +7,6 @@ use Rattle.mask_circuit.specs.Ring.{bits}
 use Rattle.mask_circuit.specs.Wires.{Pair, fresh_of}
 use Rattle.mask_circuit.specs.Shift.{add_bits}
 use Rattle.mask_laws.proofs.Members.{none_in_nil, Contains-cons_cases}
-use Rattle.mask_laws.proofs.Bits.{xor-xor}
 
 -- each fresh bit of a sum of two lists is the sum of the fresh bits
 pub fresh_of-add_bits : (ps : List Pair) (r m : List Bool) (i j : ℕ) → length r ≡ length ps → length m ≡ length ps →

@@ -1,9 +1,9 @@
 -- The local numbers of a gate's wires.
-use Rattle.std.proofs.Common.{◌≡◌, ℕ, zero, suc, pred, ◌+◌, ◌-◌, ◌*◌, ◌/◌, ◌<◌, ◌≤◌, List, [], ◌∷◌, ◌++◌, length, flat_map, slice_get, Some, refl, sym, ap, ◌∙◌, subst, arith, length-append}
-use Rattle.mask_circuit.specs.Wires.{Wire, Share, Product, Fresh, Left, Right, Partial, Pair, each, joined, row_pairs, pairs, other, row_wire, share_names, product_names, refresh_names}
+use Rattle.std.proofs.Common.{◌≡◌, ℕ, zero, suc, pred, ◌+◌, ◌-◌, ◌*◌, ◌/◌, ◌<◌, ◌≤◌, ◌++◌, length, flat_map, slice_get, Some, refl, ◌∙◌, subst, arith, length-append}
+use Rattle.mask_circuit.specs.Wires.{Wire, Share, Product, Fresh, Left, Right, Pair, each, joined, row_pairs, pairs, other, row_wire, product_names, refresh_names}
 use Rattle.mask_laws.specs.Names.{IsPair, pairs_before, pair_number, pair_count, PairsInOrder, ProductInOrder, RefreshInOrder, SharesInOrder, NamesInOrder}
 use Rattle.mask_laws.proofs.Names.{products, of_pair, rows, updates}
-use Rattle.mask_laws.proofs.Places.{slice_get-append_front, slice_get-append_back, back_at, length-each, slice_get-each, slice_get-joined, length-joined, slice_get-threes, length-threes}
+use Rattle.mask_laws.proofs.Places.{slice_get-append_front, back_at, length-each, slice_get-each, slice_get-joined, length-joined, slice_get-threes, length-threes}
 
 -- PAIRS
 
@@ -36,16 +36,16 @@ pair_at n i j is =
     let m : ℕ = j - suc i in
     let second : suc i + m ≡ j = omega (arith, is.0) in
     let in_row : slice_get (row_pairs n i) m ≡ Some (i, j) =
-        subst (λ (k : ℕ). slice_get (row_pairs n i) m ≡ Some (i, k)) second (slice_get-each {A = Pair} (λ (k : ℕ). (i, suc i + k)) (n - suc i) m (omega (arith, is.0, is.1))) in
+    subst (λ (k : ℕ). slice_get (row_pairs n i) m ≡ Some (i, k)) second (slice_get-each {A = Pair} (λ (k : ℕ). (i, suc i + k)) (n - suc i) m (omega (arith, is.0, is.1))) in
     rw (← (length-rows_before n i)) (slice_get-joined (row_pairs n) n i m (i, j) (omega (arith, is.0, is.1)) in_row)
 
 pub pairs_in_order : (n : ℕ) → PairsInOrder n
-pairs_in_order n = record { pair = pair_at n; length = length-pairs n }
+pairs_in_order n = record { pair = pair_at n; count = length-pairs n }
 
 -- SHARES
 
 pub shares_in_order : (n : ℕ) → SharesInOrder n
-shares_in_order n = record { share = slice_get-each Share n; length = length-each Share n }
+shares_in_order n = record { share = slice_get-each Share n; count = length-each Share n }
 
 -- PRODUCTS
 
@@ -92,7 +92,7 @@ product_row_at : (n i m : ℕ) → i < n → m < n - 1 → slice_get (product_na
 unfolding products of_pair rows
 product_row_at n i m hi hm =
     let front : length (products n ++ flat_map of_pair (pairs n)) ≡ n * n + 3 * pair_count n =
-        omega (arith, length-append (products n) (flat_map of_pair (pairs n)), length-products n, length-pair_wires n) in
+    omega (arith, length-append (products n) (flat_map of_pair (pairs n)), length-products n, length-pair_wires n) in
     back_at (products n ++ flat_map of_pair (pairs n)) (rows n) (i * (n - 1) + m) _ _ (rw front (omega arith)) (row_at n i m hi hm)
 
 length-product_names : (n : ℕ) → length (product_names n) ≡ n * n + 3 * pair_count n + n * (n - 1)
@@ -111,7 +111,7 @@ product_in_order n = record {
   left = λ i j is. product_pair_at n i j 1 _ (Left i j) (omega arith) is refl;
   right = λ i j is. product_pair_at n i j 2 _ (Right i j) (omega arith) is refl;
   row = product_row_at n;
-  length = length-product_names n;
+  count = length-product_names n;
 }
 
 -- REFRESHES
@@ -126,7 +126,7 @@ refresh_in_order n = record {
   fresh = λ i j is. (let at : 3 * pair_number n i j + 0 ≡ 3 * pair_number n i j = omega arith in rw at at (update_at n i j 0 (Fresh i j) is refl));
   lower = λ i j is. update_at n i j 1 (row_wire n i j) is refl;
   higher = λ i j is. update_at n i j 2 (row_wire n j i) is refl;
-  length = rw (length-threes (updates n) (pairs n) (λ q. refl), length-pairs n) refl;
+  count = rw (length-threes (updates n) (pairs n) (λ q. refl), length-pairs n) refl;
 }
 
 pub names_in_order : (n : ℕ) → NamesInOrder n

@@ -1,5 +1,5 @@
 -- What is in a list that is made by number, joined from pieces or mapped to pieces.
-use Rattle.std.proofs.Common.{◌≡◌, ℕ, zero, suc, ◌+◌, ◌<◌, ◌≤◌, ◌⊎◌, inl, inr, List, [], ◌∷◌, ◌++◌, length, Contains, flat_map, slice_index_or, refl, sym, ap, subst, arith}
+use Rattle.std.proofs.Common.{◌≡◌, ℕ, zero, suc, ◌<◌, ◌⊎◌, inl, inr, List, [], ◌∷◌, ◌++◌, length, Contains, flat_map, slice_index_or, refl, sym, subst, arith}
 use Rattle.std.proofs.lemmas.Bool.{cases_lt}
 use Rattle.std.proofs.lemmas.List.Elements.{Contains-push, Contains-push_cases, Contains-append_left, Contains-append_right, Contains-append_cases}
 use Rattle.mask_circuit.specs.Wires.{each, joined}
@@ -90,9 +90,9 @@ Contains-flat_map f (q ∷ ps) p x h g = go (λ k. Contains-flat_map f ps p x k 
 pub holds_of_three : {A : Type 0} (P : A → Type 0) (a b c x : A) → P a → P b → P c → Contains (a ∷ b ∷ c ∷ []) x → P x
 holds_of_three P a b c x pa pb pc h =
     elim (Contains-cons_cases a (b ∷ c ∷ []) x h) [
-      inl e ↦ subst P e pa
+      | inl e ↦ subst P e pa
       | inr h' ↦ elim (Contains-cons_cases b (c ∷ []) x h') [
-        inl e ↦ subst P e pb
+        | inl e ↦ subst P e pb
         | inr h'' ↦ elim (Contains-cons_cases c [] x h'') [ inl e ↦ subst P e pc | inr z ↦ absurd (none_in_nil x z) ]
       ]
     ]

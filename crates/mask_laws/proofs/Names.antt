@@ -1,11 +1,11 @@
 -- The names of a gate's wires, by their shapes.
-use Rattle.std.proofs.Common.{◌≡◌, ◌≢◌, ℕ, zero, suc, pred, ◌+◌, ◌-◌, ◌<◌, ◌≤◌, ◌⊎◌, ◌↔◌, inl, inr, Bool, true, false, cond, ◌&&◌, ◌||◌, ◌==◌, nat_lt, List, [], ◌∷◌, ◌++◌, Contains, flat_map, refl, sym, ap, ◌∙◌, subst, arith, lt-ltb, le-ltb, eq-eqb, ne_eqb, eqb-true}
-use Rattle.std.proofs.lemmas.Bool.{cases_lt, cases_eq, cases_order, cond-true, cond-false, or_right, or_left, and_from, and_left}
+use Rattle.std.proofs.Common.{◌≡◌, ◌≢◌, ℕ, suc, pred, ◌+◌, ◌-◌, ◌<◌, ◌≤◌, inl, inr, Bool, true, false, ◌==◌, List, [], ◌∷◌, ◌++◌, Contains, flat_map, refl, sym, ap, subst, arith, lt-ltb, le-ltb, eq-eqb}
+use Rattle.std.proofs.lemmas.Bool.{cases_lt, cases_eq, cond-true, cond-false, or_right, or_left, and_from}
 use Rattle.std.proofs.lemmas.List.Elements.{Contains-append_left, Contains-append_right, Contains-append_cases}
-use Rattle.mask_circuit.specs.declared.gates.Gate.{Gate}
 use Rattle.mask_circuit.specs.declared.gates.Gate.TheVariants.{Zero, One, Xor, Not, And, Ref}
-use Rattle.mask_circuit.specs.Wires.{Wire, Share, Product, Fresh, Left, Right, Partial, Pair, each, joined, row_pairs, pairs, other, is_last, row_wire, share_names, product_names, refresh_names, gate_names}
-use Rattle.mask_laws.specs.Names.{IsShareName, IsPair, IsInnerColumn, IsProductName, IsRefreshName, IsGateName, GateHasNames}
+use Rattle.mask_circuit.specs.Wires.{Wire, Share, Product, Fresh, Left, Right, Partial, Pair, each, joined, row_pairs, pairs, other, is_last, row_wire, share_names, product_names, refresh_names}
+use Rattle.mask_circuit.specs.Probing.{same_wire}
+use Rattle.mask_laws.specs.Names.{IsShareName, IsPair, IsInnerColumn, IsProductName, IsRefreshName, GateHasNames}
 use Rattle.mask_laws.proofs.Members.{first_of_three, second_of_three, third_of_three, each_place, Contains-each, joined_piece, Contains-joined, flat_map_piece, Contains-flat_map, holds_of_three}
 
 -- PAIRS
@@ -61,7 +61,7 @@ row_wire-is P n i k hi hk ne last inner = go (is_last n i k) refl
 has_last : (n i : ℕ) → 2 ≤ n → i < n → (k : ℕ) × (k < n) × (i ≢ k) × (is_last n i k ≡ true)
 has_last n i two hi =
     elim (cases_eq (suc i) n) [
-      inl e ↦ (pred (pred n), omega arith, omega arith, or_right (suc (pred (pred n)) == n) _ (and_from _ _ (eq-eqb (suc i) n e) (eq-eqb _ _ (omega arith))))
+      | inl e ↦ (pred (pred n), omega arith, omega arith, or_right (suc (pred (pred n)) == n) _ (and_from _ _ (eq-eqb (suc i) n e) (eq-eqb _ _ (omega arith))))
       | inr ne ↦ (pred n, omega arith, omega arith, or_left _ _ (eq-eqb (suc (pred n)) n (omega arith)))
     ]
 
@@ -119,8 +119,8 @@ product_forward : (n : ℕ) (w : Wire) → Contains (product_names n) w → IsPr
 unfolding products of_pair rows
 product_forward n w h =
     elim (Contains-append_cases (products n ++ flat_map of_pair (pairs n)) (rows n) w h) [
-      inl front ↦ elim (Contains-append_cases (products n) (flat_map of_pair (pairs n)) w front) [
-        inl in_products ↦ products_forward n w in_products
+      | inl front ↦ elim (Contains-append_cases (products n) (flat_map of_pair (pairs n)) w front) [
+        | inl in_products ↦ products_forward n w in_products
         | inr in_pairs ↦ pair_wires_forward n w in_pairs
       ]
       | inr in_rows ↦ rows_forward n w in_rows
@@ -186,7 +186,7 @@ update_of : (n i k : ℕ) → i < n → k < n → i ≢ k → Contains (refresh_
 unfolding updates
 update_of n i k hi hk ne =
     elim (cases_lt i k) [
-      inl l ↦ update_at n i k (row_wire n i k) (l, hk) (second_of_three (Fresh i k) (row_wire n i k) (row_wire n k i))
+      | inl l ↦ update_at n i k (row_wire n i k) (l, hk) (second_of_three (Fresh i k) (row_wire n i k) (row_wire n k i))
       | inr g ↦ update_at n k i (row_wire n i k) (omega arith, hi) (third_of_three (Fresh k i) (row_wire n k i) (row_wire n i k))
     ]
 
@@ -210,3 +210,12 @@ gate_names-by_shape N (Xor u v) w two = (share_forward N w, share_backward N w)
 gate_names-by_shape N (Not u) w two = (share_forward N w, share_backward N w)
 gate_names-by_shape N (And u v) w two = (product_forward N w, product_backward N w two)
 gate_names-by_shape N (Ref u) w two = (refresh_forward N w, refresh_backward N w two)
+
+-- a name is the same as itself
+pub same_wire_self : (w : Wire) → same_wire w w ≡ true
+same_wire_self (Share i) = eq-eqb i i refl
+same_wire_self (Product i j) = and_from (i == i) (j == j) (eq-eqb i i refl) (eq-eqb j j refl)
+same_wire_self (Fresh i j) = and_from (i == i) (j == j) (eq-eqb i i refl) (eq-eqb j j refl)
+same_wire_self (Left i j) = and_from (i == i) (j == j) (eq-eqb i i refl) (eq-eqb j j refl)
+same_wire_self (Right i j) = and_from (i == i) (j == j) (eq-eqb i i refl) (eq-eqb j j refl)
+same_wire_self (Partial i j) = and_from (i == i) (j == j) (eq-eqb i i refl) (eq-eqb j j refl)

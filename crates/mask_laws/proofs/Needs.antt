@@ -1,10 +1,10 @@
 -- Each probe on a gate demands one share of each operand at most.
-use Rattle.std.proofs.Common.{◌≡◌, ◌≢◌, ℕ, ◌+◌, ◌<◌, ◌≤◌, ◌⊎◌, inl, inr, Bool, true, false, cond, not, ◌&&◌, ◌||◌, ◌==◌, List, [], ◌∷◌, length, refl, sym, ap, ◌∙◌, subst, arith, eqb-true}
+use Rattle.std.proofs.Common.{◌≡◌, ℕ, ◌≤◌, inl, inr, Bool, true, false, cond, not, ◌&&◌, ◌||◌, ◌==◌, List, length, sym, arith, eqb-true}
 use Rattle.std.specs.List.{list_any}
-use Rattle.std.proofs.lemmas.Bool.{cases_Bool, or_cases, and_parts}
+use Rattle.std.proofs.lemmas.Bool.{or_cases, and_parts}
 use Rattle.mask_circuit.specs.Wires.{Wire, Share, Product, Fresh, Left, Right, Partial}
 use Rattle.mask_circuit.specs.Probing.{size}
-use Rattle.mask_circuit.specs.Need.{ShareSet, is_of_row, product_rows, demands_left, demands_right, left_need, right_need, is_update_of, refresh_need}
+use Rattle.mask_circuit.specs.Need.{ShareSet, is_of_row, product_rows, demands_left, demands_right, left_need, right_need, is_update_of}
 use Rattle.mask_laws.specs.Needs.{NeedsAreSmall}
 use Rattle.mask_laws.proofs.Sets.{size-mono, size-owned, list_any-or}
 
@@ -13,7 +13,7 @@ either : {P : Type 0} (x y : Bool) → (x ≡ true → P) → (y ≡ true → P)
 either x y f g h = elim (or_cases x y h) [ inl e ↦ f e | inr e ↦ g e ]
 
 -- the row that a wire of a product belongs to, if there is one
-pub row_of : Wire → ℕ
+unfoldable pub row_of : Wire → ℕ
 row_of (Share k) = 0
 row_of (Product k l) = k
 row_of (Fresh k l) = k
@@ -31,7 +31,7 @@ row_is i (Right k l) h = sym (eqb-true l i h)
 row_is i (Partial k l) h = sym (eqb-true k i h)
 
 -- the share of the first operand that a wire of a product demands, if there is one
-left_owner : (i : ℕ) (w : Wire) → (is_of_row i w || demands_left i w) ≡ true → i ≡ row_of w
+pub left_owner : (i : ℕ) (w : Wire) → (is_of_row i w || demands_left i w) ≡ true → i ≡ row_of w
 unfolding row_of
 left_owner i (Share k) h = cc
 left_owner i (Product k l) h = either (k == i && l == i) (k == i) (λ e. row_is i (Product k l) e) (λ e. sym (eqb-true k i e)) h
@@ -41,7 +41,7 @@ left_owner i (Right k l) h = either (l == i) false (λ e. sym (eqb-true l i e)) 
 left_owner i (Partial k l) h = either (k == i) false (λ e. sym (eqb-true k i e)) (λ e. cc) h
 
 -- the share of the second one, where T has the touched rows
-right_of : ShareSet → Wire → ℕ
+pub right_of : ShareSet → Wire → ℕ
 right_of T (Share k) = 0
 right_of T (Product k l) = l
 right_of T (Fresh k l) = k
@@ -49,7 +49,7 @@ right_of T (Left k l) = cond (T k) l k
 right_of T (Right k l) = l
 right_of T (Partial k l) = k
 
-right_owner : (T : ShareSet) (i : ℕ) (w : Wire) → (is_of_row i w || demands_right T i w) ≡ true → i ≡ right_of T w
+pub right_owner : (T : ShareSet) (i : ℕ) (w : Wire) → (is_of_row i w || demands_right T i w) ≡ true → i ≡ right_of T w
 unfolding right_of
 right_owner T i (Share k) h = cc
 right_owner T i (Product k l) h = either (k == i && l == i) (l == i)
@@ -82,7 +82,7 @@ size-left_need N Q =
 size-right_need : (N : ℕ) (Q : List Wire) → size N (right_need Q) ≤ length Q
 size-right_need N Q =
     let one_test = size-mono N (right_need Q) (λ i. list_any (λ w. is_of_row i w || demands_right (product_rows Q) i w) Q)
-            (λ i lt h. rw (← (list_any-or (is_of_row i) (demands_right (product_rows Q) i) Q)) h) in
+    (λ i lt h. rw (← (list_any-or (is_of_row i) (demands_right (product_rows Q) i) Q)) h) in
     let few = size-owned N (λ i w. is_of_row i w || demands_right (product_rows Q) i w) (right_of (product_rows Q)) Q (right_owner (product_rows Q)) in omega arith
 
 pub needs_are_small : NeedsAreSmall

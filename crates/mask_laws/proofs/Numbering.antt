@@ -15,7 +15,7 @@ use Rattle.mask_circuit.specs.Acceptance.{gate_at}
 use Rattle.mask_laws.specs.Numbering.{names_by, names_of, wires_before, WiresInOrder, WiresAreCounted, SharesHavePlaces}
 use Rattle.mask_laws.proofs.Names.{gate_names-by_shape}
 use Rattle.mask_laws.proofs.Places.{slice_get-joined}
-use Rattle.mask_laws.proofs.Gates.{gate_at_input, Make, Make_all, Make_first, Make_rest}
+use Rattle.mask_laws.proofs.GateAt.{gate_at_input, Make, Make_all, Make_first, Make_rest}
 
 -- LISTS
 

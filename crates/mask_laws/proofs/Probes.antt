@@ -1,13 +1,13 @@
 -- The probes of a circuit by the gate that they stand in, and what is demanded at least.
-use Rattle.std.proofs.Common.{◌≡◌, ℕ, zero, suc, ◌+◌, ◌<◌, ◌≤◌, Bool, true, false, cond, not, ◌&&◌, ◌||◌, ◌==◌, ◌⊎◌, inl, inr, List, [], ◌∷◌, ◌++◌, length, map, All, Contains, Some, None, refl, ap, ap₂, sym, subst, ◌∙◌, arith, eqb-true, eq-eqb}
-use Rattle.std.specs.List.{cons_option, list_any}
+use Rattle.std.proofs.Common.{◌≡◌, ℕ, suc, Bool, true, false, cond, not, ◌&&◌, ◌==◌, ◌⊎◌, inl, inr, List, [], ◌∷◌, All, Contains, Some, None, refl, ap, subst, ◌∙◌, eqb-true, eq-eqb}
+use Rattle.std.specs.List.{cons_option}
 use Rattle.std.proofs.lemmas.Bool.{and_parts, and_from, not-true, or_left, or_right}
 use Rattle.std.proofs.lemmas.List.Elements.{All-nil, All-cons}
 use Rattle.mask_circuit.specs.declared.gates.Gate.{Gate}
 use Rattle.mask_circuit.specs.Wires.{Wire, Share}
 use Rattle.mask_circuit.specs.Expansion.{Place}
 use Rattle.mask_circuit.specs.Probing.{same_wire}
-use Rattle.mask_circuit.specs.Need.{is_share, inner_probes, probed_shares, need_from, demand}
+use Rattle.mask_circuit.specs.Need.{is_share, inner_probes, probed_shares, need_from}
 use Rattle.mask_laws.proofs.Members.{none_in_nil, Contains-cons_cases, Contains-first, Contains-later}
 
 -- whether p is an inner probe of value n
@@ -34,6 +34,7 @@ Contains-inner_probes n (p ∷ P) w k inner = go (is_inner_at n p) refl (Contain
   where
     passes : p ≡ (n, w) → is_inner_at n p ≡ true
     passes e = ap (is_inner_at n) e ∙ and_from (n == n) (not (is_share w)) (eq-eqb n n refl) (ap not inner)
+
     go : (b : Bool) → is_inner_at n p ≡ b → (p ≡ (n, w)) ⊎ Contains P (n, w) → (Contains P (n, w) → Contains (inner_probes n P) w) →
         Contains (cons_option (cond b (Some p.1) None) (inner_probes n P)) w
     go true e (inl same) ih = subst (λ (q : Place). Contains (p.1 ∷ inner_probes n P) q.1) same (Contains-first p.1 (inner_probes n P))

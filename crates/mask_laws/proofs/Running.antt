@@ -13,13 +13,14 @@ use Rattle.mask_circuit.specs.Probing.{seen, same_bits, sum_over_tapes, ShareSet
 use Rattle.mask_circuit.specs.Need.{ShareSet, need, probes_at}
 use Rattle.mask_circuit.specs.Acceptance.{output_at}
 use Rattle.mask_circuit.specs.Shift.{shift}
-use Rattle.mask_laws.specs.Gadgets.{GateKeeps}
 use Rattle.mask_laws.specs.Runs.{Source, Public, Variable, Output, Call, source_at, Outputs, no_outputs, source_shares, input_shares, call_draws, call_wires, Evaluation, evaluation, evaluation_wires, with_outputs, evaluations_from, run_wires, run_draws, run_seen, run_hits, IsRunSimulated, IsPublic, IsThere, IsStrongCall, AreStrongCalls, IsStrongRun, places_within, places_behind, demanded_by, demands_from, run_need, RunNeed}
 use Rattle.mask_laws.proofs.Members.{none_in_nil, Contains-cons_cases, Contains-first, Contains-later}
 use Rattle.mask_laws.proofs.OutputShares.{Contains-map, output_names, output_names-all}
 use Rattle.mask_laws.proofs.RunNeeds.{asked_of, call_probes, call_allowed, demanded_by-all, demands_small, length-places}
-use Rattle.mask_laws.proofs.Seen.{All-probes_at, expand-shift_by, seen-shift}
-use Rattle.mask_laws.proofs.Shifts.{take_front, drop_front, sum_over_tapes-shift_from, length-shift_from}
+use Rattle.mask_laws.proofs.Gates.{gate_keeps}
+use Rattle.mask_laws.proofs.Probes.{probed_shares-from_Contains, need_from-probed}
+use Rattle.mask_laws.proofs.Seen.{shift_keeps, shift_reorders}
+use Rattle.mask_laws.proofs.Shifts.{take_front, drop_front, length-shift_from}
 use Rattle.mask_laws.proofs.Strengthening.{asked_names, asked_within, asked_fits}
 use Rattle.mask_laws.proofs.Tapes.{sum_over_tapes-same, sum_over_tapes-add}
 
@@ -75,7 +76,7 @@ sum_over_tapes-shift_run (call ∷ calls) N j x y a b P f =
     ap (λ n. sum_over_tapes n shifted) (sum_by-cons (call_draws N) call calls)
     ∙ sum_over_tapes-add d m shifted
     ∙ sum_over_tapes-same d _ _ front
-    ∙ sum_over_tapes-shift_from _ N call.circuit.gates call.circuit.inputs _ _ rest_of
+    ∙ shift_reorders call.circuit N s s' (call_probes call calls N j P) rest_of
     ∙ sym (sum_over_tapes-add d m f)
     ∙ ap (λ n. sum_over_tapes n f) (sym (sum_by-cons (call_draws N) call calls))
 
@@ -115,38 +116,39 @@ Contains-filter test (y ∷ xs) x h e = go (test y) refl (Contains-cons_cases y 
     go false is (inr rest) up = up rest
 
 -- one call: its probed wires carry the same ..
-wires_kept : GateKeeps → (call : Call) (calls : List Call) (N j : ℕ) (P counts : List ℕ) (s s' : ℕ → Shares Bool) (own : List Bool) → 2 ≤ N → AreStrongCalls counts (call ∷ calls) → length P < N →
+wires_kept : (call : Call) (calls : List Call) (N j : ℕ) (P counts : List ℕ) (s s' : ℕ → Shares Bool) (own : List Bool) → 2 ≤ N → AreStrongCalls counts (call ∷ calls) → length P < N →
     AgreeOn call.circuit N (need call.circuit N (call_probes call calls N j P)) s s' → length own ≡ call_draws N call → (p : ℕ) → Contains P p → p < call_wires N call →
     slice_index_or (wires bits call.circuit N s own) p false ≡ slice_index_or (wires bits call.circuit N s' (call_shift call calls N j P s s' own)) p false
-wires_kept keeps call calls N j P counts s s' own two are few agree long p h lt =
+wires_kept call calls N j P counts s s' own two are few agree long p h lt =
     let c = call.circuit in
     let allowed = call_allowed call calls N j P _ two are.1 few in
     let Q = call_probes call calls N j P in
     let here : Contains Q p = Contains-append_left (places_within (call_wires N call) P) (output_places c N (asked_of call calls N j P)) p
         (Contains-filter (λ q. nat_lt q (call_wires N call)) P p h (lt-ltb p (call_wires N call) lt)) in
     same_at (λ q. slice_index_or (wires bits c N s own) q false) (λ q. slice_index_or (wires bits c N s' (call_shift call calls N j P s s' own)) q false) Q p
-    (sym (seen-shift keeps c N Q s s' own two are.0.circuit.gates (asked_within c N (places_within (call_wires N call) P) (asked_of call calls N j P) two are.0.circuit allowed)
-      (asked_fits c N (places_within (call_wires N call) P) (asked_of call calls N j P) two are.0.circuit are.0.strong allowed) agree long)) here
+    (sym (shift_keeps gate_keeps c N s s' Q own two are.0.circuit.gates (asked_within c N (places_within (call_wires N call) P) (asked_of call calls N j P) two are.0.circuit allowed)
+      (asked_fits c N (places_within (call_wires N call) P) (asked_of call calls N j P) two are.0.circuit are.0.strong allowed) agree long).0) here
 
 -- .. and so do the shares of its outputs that are asked for
-outputs_kept : GateKeeps → (call : Call) (calls : List Call) (N j : ℕ) (P counts : List ℕ) (s s' : ℕ → Shares Bool) (own : List Bool) → 2 ≤ N → AreStrongCalls counts (call ∷ calls) → length P < N →
+outputs_kept : (call : Call) (calls : List Call) (N j : ℕ) (P counts : List ℕ) (s s' : ℕ → Shares Bool) (own : List Bool) → 2 ≤ N → AreStrongCalls counts (call ∷ calls) → length P < N →
     AgreeOn call.circuit N (need call.circuit N (call_probes call calls N j P)) s s' → length own ≡ call_draws N call →
     (k i : ℕ) → k < length call.circuit.outputs → i < N → asked_of call calls N j P k i ≡ true →
     shares_of (expand bits call.circuit N s own) (output_at call.circuit k) i
     ≡ shares_of (expand bits call.circuit N s' (call_shift call calls N j P s s' own)) (output_at call.circuit k) i
-outputs_kept keeps call calls N j P counts s s' own two are few agree long k i lt below asked =
+outputs_kept call calls N j P counts s s' own two are few agree long k i lt below asked =
     let c = call.circuit in
     let O = asked_of call calls N j P in
     let within = places_within (call_wires N call) P in
     let allowed = call_allowed call calls N j P _ two are.1 few in
+    let Q = call_probes call calls N j P in
     let zero_k : 0 + k ≡ k = omega arith in
-    let here : Contains (probes_at c N (call_probes call calls N j P)) (output_at c k, Share i) =
+    let here : Contains (probes_at c N Q) (output_at c k, Share i) =
         subst (λ (S : List Place). Contains S (output_at c k, Share i)) (sym (asked_names c N within O two are.0.circuit))
         (Contains-append_right (probes_at c N within) (output_names N O c.outputs 0) (output_at c k, Share i)
           (output_names-all N O c.outputs 0 k i lt below (ap (λ z. O z i) zero_k ∙ asked))) in
-    expand-shift_by keeps c N (probes_at c N (call_probes call calls N j P)) s s' own two are.0.circuit.gates
-    (All-probes_at c N (call_probes call calls N j P) (asked_within c N within O two are.0.circuit allowed))
-    (asked_fits c N within O two are.0.circuit are.0.strong allowed) agree long (output_at c k) (Share i) here
+    let demanded = need_from-probed (probes_at c N Q) c.gates c.inputs (output_at c k) i (probed_shares-from_Contains (probes_at c N Q) (output_at c k) i here) in
+    sym ((shift_keeps gate_keeps c N s s' Q own two are.0.circuit.gates (asked_within c N within O two are.0.circuit allowed)
+      (asked_fits c N within O two are.0.circuit are.0.strong allowed) agree long).1 (output_at c k) i (are.0.circuit.outputs k 0 lt) below demanded)
 
 with_new : (N j : ℕ) (call : Call) (s : ℕ → Shares Bool) (own : List Bool) (a : Outputs) (l k i : ℕ) → l ≡ j →
     with_outputs N j (evaluation call s own) a l k i ≡ shares_of (expand bits call.circuit N s own) (output_at call.circuit k) i
@@ -157,12 +159,12 @@ with_old : (N j : ℕ) (call : Call) (s : ℕ → Shares Bool) (own : List Bool)
 with_old N j call s own a l k i other = ap (λ (f : Shares Bool). f i) (cond-false (l == j) (shares_of (expand bits call.circuit N s own) (output_at call.circuit k)) (a l k) (ne_eqb l j other))
 
 -- so the sides agree on what later calls demand
-later_agree : GateKeeps → (call : Call) (calls : List Call) (N j : ℕ) (P counts : List ℕ) (x y : ℕ → Shares Bool) (a b : Outputs) (own : List Bool) → 2 ≤ N →
+later_agree : (call : Call) (calls : List Call) (N j : ℕ) (P counts : List ℕ) (x y : ℕ → Shares Bool) (a b : Outputs) (own : List Bool) → 2 ≤ N →
     AreStrongCalls counts (call ∷ calls) → length P < N → length counts ≡ j → SidesAgree (call ∷ calls) N j P counts x y a b → length own ≡ call_draws N call →
     SidesAgree calls N (suc j) (places_behind (call_wires N call) P) (counts ++ length call.circuit.outputs ∷ []) x y
     (with_outputs N j (evaluation call (input_shares x a call) own) a)
     (with_outputs N j (evaluation call (input_shares y b call) (call_shift call calls N j P (input_shares x a call) (input_shares y b call) own)) b)
-later_agree keeps call calls N j P counts x y a b own two are few number agree long = go
+later_agree call calls N j P counts x y a b own two are few number agree long = go
   where
     s : ℕ → Shares Bool
     s = input_shares x a call
@@ -182,7 +184,7 @@ later_agree keeps call calls N j P counts x y a b own two are few number agree l
         at (inl same) =
             let last : slice_index (counts ++ m ∷ []) l ≡ m = get_or_push counts m 0 l (number ∙ sym same) in
             with_new N j call s own a l k i same
-            ∙ outputs_kept keeps call calls N j P counts s s' own two are few (inputs_agree call calls N j P counts x y a b are.0 agree) long k i
+            ∙ outputs_kept call calls N j P counts s s' own two are few (inputs_agree call calls N j P counts x y a b are.0 agree) long k i
               (omega (arith, there.1)) lt (subst (λ (z : ℕ). demands_from calls N (suc j) (places_behind (call_wires N call) P) (Output z k) i ≡ true) same e)
             ∙ sym (with_new N j call s' (call_shift call calls N j P s s' own) b l k i same)
         at (inr (inl before)) =
@@ -221,11 +223,11 @@ place_behind n P p h le = Contains-map (λ q. q - n) (filter (λ q. not (nat_lt 
     (Contains-filter (λ q. not (nat_lt q n)) P p h (ap not (le-ltb p n le)))
 
 -- Each place shows the same on both sides.
-pub shift_run-keeps : GateKeeps → (calls : List Call) (N j : ℕ) (P counts : List ℕ) (x y : ℕ → Shares Bool) (a b : Outputs) (r : List Bool) → 2 ≤ N →
+pub shift_run-keeps : (calls : List Call) (N j : ℕ) (P counts : List ℕ) (x y : ℕ → Shares Bool) (a b : Outputs) (r : List Bool) → 2 ≤ N →
     AreStrongCalls counts calls → length P < N → length counts ≡ j → SidesAgree calls N j P counts x y a b → length r ≡ run_draws calls N → (p : ℕ) → Contains P p →
     slice_index_or (wires_from calls N j x a r) p false ≡ slice_index_or (wires_from calls N j y b (shift_run calls N j x y a b P r)) p false
-shift_run-keeps keeps [] N j P counts x y a b r two are few number agree long p h = refl
-shift_run-keeps keeps (call ∷ calls) N j P counts x y a b r two are few number agree long p h =
+shift_run-keeps [] N j P counts x y a b r two are few number agree long p h = refl
+shift_run-keeps (call ∷ calls) N j P counts x y a b r two are few number agree long p h =
     let d = call_draws N call in
     let w = call_wires N call in
     let s = input_shares x a call in
@@ -238,9 +240,9 @@ shift_run-keeps keeps (call ∷ calls) N j P counts x y a b r two are few number
     let new_long : length new ≡ d = length-call_shift call calls N j P s s' own ∙ own_long in
     let parts = length-places w P in
     same_parts (wires bits call.circuit N s own) (wires bits call.circuit N s' new) _ _ w p (length-wires call.circuit N s own) (length-wires call.circuit N s' new)
-    (λ lt. wires_kept keeps call calls N j P counts s s' own two are few (inputs_agree call calls N j P counts x y a b are.0 agree) own_long p h lt)
-    (λ le. shift_run-keeps keeps calls N (suc j) (places_behind w P) _ x y _ _ (drop d r) two are.1 (omega arith) (length_push counts (length call.circuit.outputs) ∙ omega arith)
-      (later_agree keeps call calls N j P counts x y a b own two are few number agree own_long) rest_long (p - w) (place_behind w P p h le))
+    (λ lt. wires_kept call calls N j P counts s s' own two are few (inputs_agree call calls N j P counts x y a b are.0 agree) own_long p h lt)
+    (λ le. shift_run-keeps calls N (suc j) (places_behind w P) _ x y _ _ (drop d r) two are.1 (omega arith) (length_push counts (length call.circuit.outputs) ∙ omega arith)
+      (later_agree call calls N j P counts x y a b own two are few number agree own_long) rest_long (p - w) (place_behind w P p h le))
     ∙ ap (λ ws. slice_index_or ws p false) (sym (wires_parts call calls N j y b new _ new_long))
 
 map_agree : {A B : Type 0} (f g : A → B) (xs : List A) → ((x : A) → Contains xs x → f x ≡ g x) → map f xs ≡ map g xs
@@ -253,14 +255,14 @@ start_agree calls N P x y agree (Public bit) there i lt e = refl
 start_agree calls N P x y agree (Variable v) there i lt e = agree v i lt e
 start_agree calls N P x y agree (Output j k) there i lt e = refl
 
-pub run_needs : GateKeeps → RunNeed
-run_needs keeps calls N P two are few = (
+pub run_needs : RunNeed
+run_needs calls N P two are few = (
   λ v. demands_small calls N 0 P [] (Variable v) two are (λ e. e),
   λ x y agree v.
       let hit = λ (bs : List Bool). cond (same_bits bs v) 1 0 in
       let shifted = λ (r : List Bool). shift_run calls N 0 x y no_outputs no_outputs P r in
       sum_over_tapes-same (run_draws calls N) _ _ (λ r long. ap hit
         (map_agree (λ p. slice_index_or (run_wires calls N x r) p false) (λ p. slice_index_or (run_wires calls N y (shifted r)) p false) P
-          (λ p h. shift_run-keeps keeps calls N 0 P [] x y no_outputs no_outputs r two are few refl (start_agree calls N P x y agree) long p h)))
+          (λ p h. shift_run-keeps calls N 0 P [] x y no_outputs no_outputs r two are few refl (start_agree calls N P x y agree) long p h)))
       ∙ sum_over_tapes-shift_run calls N 0 x y no_outputs no_outputs P (λ r. hit (run_seen calls N y r P)),
 )

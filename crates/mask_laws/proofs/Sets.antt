@@ -1,7 +1,7 @@
 -- How many shares are in a set, where each probe puts in one share at most.
-use Rattle.std.proofs.Common.{◌≡◌, ◌≢◌, ℕ, zero, suc, ◌+◌, ◌<◌, ◌≤◌, ◌⊎◌, inl, inr, Bool, true, false, cond, not, ◌&&◌, ◌||◌, List, [], ◌∷◌, length, Contains, refl, sym, ap, ◌∙◌, subst, arith}
+use Rattle.std.proofs.Common.{◌≡◌, ℕ, zero, suc, ◌+◌, ◌<◌, ◌≤◌, Bool, true, false, cond, ◌||◌, List, [], ◌∷◌, length, Contains, refl, arith}
 use Rattle.std.specs.List.{list_any}
-use Rattle.std.proofs.lemmas.Bool.{cases_Bool, false_from_ne_true, or_cases, or_left, or_right}
+use Rattle.std.proofs.lemmas.Bool.{false_from_ne_true}
 use Rattle.std.proofs.lemmas.List.Folds.{list_any_at}
 use Rattle.mask_circuit.specs.Wires.{Wire}
 use Rattle.mask_circuit.specs.Probing.{size}
@@ -45,6 +45,7 @@ size-one (suc n) o a only = go (size-one n o a only) (a n) refl
   where
     none_below : a n ≡ true → (i : ℕ) → i < n → a i ≡ false
     none_below at i lt = false_from_ne_true (a i) (λ h. let here = only i h in let there = only n at in omega arith)
+
     go : size n a ≤ 1 → (b : Bool) → a n ≡ b → size n a + cond (a n) 1 0 ≤ 1
     go up true at = let none = size-none n a (none_below at) in rw at (omega arith)
     go up false at = rw at (omega arith)

@@ -1,5 +1,5 @@
 -- The shift of a tape, gate by gate.
-use Rattle.std.proofs.Common.{◌≡◌, ℕ, zero, suc, ◌+◌, ◌≤◌, Bool, List, [], ◌∷◌, ◌++◌, length, take, drop, sum_by, refl, ap, ap₂, sym, subst, ◌∙◌, arith, length-append, length-drop}
+use Rattle.std.proofs.Common.{◌≡◌, ℕ, suc, ◌+◌, Bool, List, [], ◌∷◌, ◌++◌, length, take, drop, sum_by, refl, ap, ap₂, sym, subst, ◌∙◌, arith, length-append, length-drop}
 use Rattle.std.proofs.lemmas.List.{length-take-le, take-append-drop}
 use Rattle.std.proofs.lemmas.List.Sums.{sum_by-cons}
 use Rattle.std.proofs.Math.Seq.{take-append_seam, drop-append_seam}
@@ -56,9 +56,9 @@ sum_over_tapes-shift_from P N (g ∷ gs) n t t' f =
     let shifted = λ (r : List Bool). f (shift_from P N (g ∷ gs) n t t' r) in
     let rest_of = λ (a : List Bool). sum_over_tapes (draws_from N gs) (λ b. f (a ++ b)) in
     let front : (a : List Bool) → length a ≡ w → sum_over_tapes (draws_from N gs) (λ b. shifted (a ++ b)) ≡ rest_of (add_bits a m)
-            = λ a e.
-                sum_over_tapes-same (draws_from N gs) _ _ (λ b _. ap f (shift_from-cons P N g gs n t t' a b e))
-                ∙ sum_over_tapes-shift_from P N gs (suc n) (trace_at N g n t a) (trace_at N g n t' (add_bits a m)) (λ b. f (add_bits a m ++ b)) in
+    = λ a e.
+    sum_over_tapes-same (draws_from N gs) _ _ (λ b _. ap f (shift_from-cons P N g gs n t t' a b e))
+    ∙ sum_over_tapes-shift_from P N gs (suc n) (trace_at N g n t a) (trace_at N g n t' (add_bits a m)) (λ b. f (add_bits a m ++ b)) in
     ap (λ (k : ℕ). sum_over_tapes k shifted) (draws_from-cons N g gs)
     ∙ sum_over_tapes-add w (draws_from N gs) shifted
     ∙ sum_over_tapes-same w _ _ front
@@ -77,8 +77,8 @@ length-shift_from P N (g ∷ gs) n t t' r =
     let new = add_bits old (mask_at P N g gs n t t') in
     length-append new _
     ∙ ap₂ (λ (a b : ℕ). a + b)
-        (length-add_bits old (mask_at P N g gs n t t'))
-        (length-shift_from P N gs (suc n) (trace_at N g n t old) (trace_at N g n t' new) (drop (gate_draws N g) r))
+    (length-add_bits old (mask_at P N g gs n t t'))
+    (length-shift_from P N gs (suc n) (trace_at N g n t old) (trace_at N g n t' new) (drop (gate_draws N g) r))
     ∙ length-cut (gate_draws N g) r
 
 -- the first gate's bits of a tape, and the bits left for the others
@@ -100,7 +100,7 @@ shift_from-back symmetric P N (g ∷ gs) n t t' r long =
     let later = shift_from P N gs (suc n) (trace_at N g n t old) (trace_at N g n t' new) (drop w r) in
     let parts = front_of_tape N g gs r long in
     let back : add_bits new (mask_at P N g gs n t' t) ≡ old
-            = ap (add_bits new) (symmetric N g (inner_probes n P) (need_from P gs (suc n) n) (shares_of t') (shares_of t)) ∙ add_bits-twice old m in
+    = ap (add_bits new) (symmetric N g (inner_probes n P) (need_from P gs (suc n) n) (shares_of t') (shares_of t)) ∙ add_bits-twice old m in
     shift_from-cons P N g gs n t' t new later (length-add_bits old m ∙ parts.0)
     ∙ ap (λ (o : List Bool). o ++ shift_from P N gs (suc n) (trace_at N g n t' new) (trace_at N g n t o) later) back
     ∙ ap (λ (z : List Bool). old ++ z) (shift_from-back symmetric P N gs (suc n) (trace_at N g n t old) (trace_at N g n t' new) (drop w r) parts.1)

@@ -13,15 +13,16 @@ use Rattle.mask_circuit.specs.Expansion.{Place, names, wire_count}
 use Rattle.mask_circuit.specs.Probing.{same_wire, size, HasAtMost, IsInner, output_places}
 use Rattle.mask_circuit.specs.Need.{ShareSet, inner_probes, probed_shares, demand, need_from, need, probes_at}
 use Rattle.mask_circuit.specs.Acceptance.{gate_at, Reaches, Input, ProductHere, RefreshHere, IsAccepted, IsFenced, IsStrong, output_at}
-use Rattle.mask_laws.specs.Gadgets.{GateKeeps, FitsGate}
+use Rattle.mask_laws.specs.Gadgets.{FitsGate}
 use Rattle.mask_laws.specs.Circuits.{FitsAt, FitsFrom, Fits}
 use Rattle.mask_laws.specs.Strong.{AreAllowed, StrongNeed, StrongIsSNI}
 use Rattle.mask_laws.proofs.Sets.{size-mono, size-or}
 use Rattle.mask_laws.proofs.Demands.{inner_probes-append}
 use Rattle.mask_laws.proofs.Confining.{AreGatesAt, AreGatesAt-all}
 use Rattle.mask_laws.proofs.Fitting.{source_count}
-use Rattle.mask_laws.proofs.Gates.{gate_at_input}
-use Rattle.mask_laws.proofs.Seen.{IsSimulated-from_fits}
+use Rattle.mask_laws.proofs.GateAt.{gate_at_input}
+use Rattle.mask_laws.proofs.Gates.{gate_keeps}
+use Rattle.mask_laws.proofs.Seen.{fitting_is_simulated}
 use Rattle.mask_laws.proofs.OutputShares.{output_names, output_places-names, output_places-below, output_names-inner, output_names-only}
 
 or-false : (a : Bool) → (a || false) ≡ a
@@ -192,16 +193,16 @@ asked_small c N P O two is strong v lt =
     ap (λ S. size N (need_from S c.gates c.inputs v)) (asked_names c N P O two is) in
     omega arith
 
-pub strong_need : GateKeeps → StrongNeed
-strong_need keeps c N P O two is strong allowed = (
+pub strong_need : StrongNeed
+strong_need c N P O two is strong allowed = (
   asked_small c N P O two is strong,
-  IsSimulated-from_fits keeps c N (P ++ output_places c N O) two is.gates (asked_within c N P O two is allowed) (asked_fits c N P O two is strong allowed),
+  fitting_is_simulated gate_keeps c N (P ++ output_places c N O) two is.gates (asked_within c N P O two is allowed) (asked_fits c N P O two is strong allowed),
 )
 
 -- So a strong circuit is strongly non-interfering.
-pub strong_is_sni : GateKeeps → StrongIsSNI
-strong_is_sni keeps c N two is strong P O inner few room =
-    let all = strong_need keeps c N P O two is strong (record {
+pub strong_is_sni : StrongIsSNI
+strong_is_sni c N two is strong P O inner few room =
+    let all = strong_need c N P O two is strong (record {
       wires = All-weaker (λ p. (p < wire_count c N) × IsInner c N p) (λ p. p < wire_count c N) (λ p h. h.0) P inner;
       few = few;
       fewer = room;

@@ -1,5 +1,5 @@
 -- The sum of a row, column by column.
-use Rattle.std.proofs.Common.{◌≡◌, ◌≢◌, ℕ, zero, suc, ◌+◌, ◌<◌, ◌≤◌, Bool, true, false, cond, ◌&&◌, ◌==◌, ◌⊎◌, inl, inr, refl, sym, ap, ◌∙◌, arith, eq-eqb, ne_eqb, eqb-true}
+use Rattle.std.proofs.Common.{◌≡◌, ◌≢◌, ℕ, zero, suc, ◌<◌, ◌≤◌, Bool, true, false, cond, ◌&&◌, ◌==◌, ◌⊎◌, inl, inr, refl, sym, ap, ◌∙◌, arith, eq-eqb, ne_eqb, eqb-true}
 use Rattle.std.proofs.lemmas.Bool.{cases_lt, eqb-false, and_right}
 use Rattle.mask_circuit.specs.Value.{xor}
 use Rattle.mask_circuit.specs.Ring.{bits}
@@ -40,23 +40,22 @@ row_sum-xor first first' t t' i (suc k) = go (row_sum-xor first first' t t' i k)
     go up true = up
     go up false = rw up (xor-xor (row_sum bits first t i k) (row_sum bits first' t' i k) (t (suc k)) (t' (suc k)))
 
--- a sum of zeros
-zeros : (i k : ℕ) → row_sum bits false (λ j. false) i k ≡ false
-zeros i zero = go (i == 0)
+-- terms of zero leave the first term ..
+pub row_sum-first : (first : Bool) (t : ℕ → Bool) (i k : ℕ) → ((j : ℕ) → j ≤ k → i ≢ j → t j ≡ false) → row_sum bits first t i k ≡ first
+row_sum-first first t i zero none = go (i == 0) refl
   where
-    go : (here : Bool) → cond here false (xor false false) ≡ false
-    go true = refl
-    go false = refl
-zeros i (suc k) = go (zeros i k) (i == suc k)
+    go : (here : Bool) → (i == 0) ≡ here → cond here first (xor first (t 0)) ≡ first
+    go true at = refl
+    go false at = rw (none 0 (omega arith) (eqb-false i 0 at)) (xor-false first)
+row_sum-first first t i (suc k) none = go (row_sum-first first t i k (λ j le ne. none j (omega arith) ne)) (i == suc k) refl
   where
-    go : row_sum bits false (λ j. false) i k ≡ false → (here : Bool) →
-        cond here (row_sum bits false (λ j. false) i k) (xor (row_sum bits false (λ j. false) i k) false) ≡ false
-    go up true = up
-    go up false = rw up refl
+    go : row_sum bits first t i k ≡ first → (here : Bool) → (i == suc k) ≡ here → cond here (row_sum bits first t i k) (xor (row_sum bits first t i k) (t (suc k))) ≡ first
+    go up true at = up
+    go up false at = rw (up, none (suc k) (omega arith) (eqb-false i (suc k) at)) (xor-false first)
 
--- a sum of nothing is 0
+-- .. so a sum of nothing is 0
 pub row_sum-none : (first : Bool) (t : ℕ → Bool) (i k : ℕ) → first ≡ false → ((j : ℕ) → j ≤ k → i ≢ j → t j ≡ false) → row_sum bits first t i k ≡ false
-row_sum-none first t i k e none = row_sum-same first false t (λ j. false) i k e none ∙ zeros i k
+row_sum-none first t i k e none = row_sum-first first t i k none ∙ e
 
 -- a term that stands in one column alone: before that column the sum is 0 ..
 before_one : (x : Bool) (p i k : ℕ) → k < p → row_sum bits false (λ j. x && p == j) i k ≡ false

@@ -1,5 +1,5 @@
 -- Sums over all tapes, and tapes with a mask added.
-use Rattle.std.proofs.Common.{◌≡◌, ℕ, zero, suc, ◌+◌, Bool, true, false, not, List, [], ◌∷◌, ◌++◌, length, refl, ap, ap₂, sym, subst, ◌∙◌, add_comm, zero-add, suc-add}
+use Rattle.std.proofs.Common.{◌≡◌, ℕ, zero, suc, ◌+◌, Bool, true, false, List, [], ◌∷◌, ◌++◌, length, refl, ap, ap₂, ◌∙◌, add_comm, zero-add, suc-add}
 use Rattle.mask_circuit.specs.Value.{xor}
 use Rattle.mask_circuit.specs.Probing.{sum_over_tapes}
 use Rattle.mask_circuit.specs.Shift.{add_bits}
@@ -9,8 +9,8 @@ pub sum_over_tapes-same : (n : ℕ) (f g : List Bool → ℕ) → ((r : List Boo
 sum_over_tapes-same zero f g same = same [] refl
 sum_over_tapes-same (suc n) f g same =
     ap₂ (λ (a b : ℕ). a + b)
-        (sum_over_tapes-same n (λ r. f (false ∷ r)) (λ r. g (false ∷ r)) (λ r e. same (false ∷ r) (ap suc e)))
-        (sum_over_tapes-same n (λ r. f (true ∷ r)) (λ r. g (true ∷ r)) (λ r e. same (true ∷ r) (ap suc e)))
+    (sum_over_tapes-same n (λ r. f (false ∷ r)) (λ r. g (false ∷ r)) (λ r e. same (false ∷ r) (ap suc e)))
+    (sum_over_tapes-same n (λ r. f (true ∷ r)) (λ r. g (true ∷ r)) (λ r e. same (true ∷ r) (ap suc e)))
 
 -- a tape of m + n bits is m bits followed by n bits
 pub sum_over_tapes-add : (m n : ℕ) (f : List Bool → ℕ) → sum_over_tapes (m + n) f ≡ sum_over_tapes m (λ a. sum_over_tapes n (λ b. f (a ++ b)))

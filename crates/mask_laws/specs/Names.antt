@@ -1,5 +1,5 @@
 -- Which names the wires of a gate have, and the local number of each: its place in the list of names.
-use Rattle.std.specs.Prelude.{◌≡◌, ℕ, zero, suc, pred, ◌+◌, ◌-◌, ◌*◌, ◌/◌, ◌<◌, ◌≤◌, ◌≢◌, ◌↔◌, false, length, Contains, slice_get, Some}
+use Rattle.std.specs.Prelude.{◌≡◌, ℕ, zero, suc, ◌+◌, ◌-◌, ◌*◌, ◌/◌, ◌<◌, ◌≤◌, ◌≢◌, ◌↔◌, false, length, Contains, slice_get, Some}
 use Rattle.mask_circuit.specs.declared.gates.Gate.{Gate}
 use Rattle.mask_circuit.specs.declared.gates.Gate.TheVariants.{Zero, One, Xor, Not, And, Ref}
 use Rattle.mask_circuit.specs.Wires.{Wire, Share, Product, Fresh, Left, Right, Partial, pairs, other, is_last, row_wire, share_names, product_names, refresh_names, gate_names}
@@ -68,7 +68,7 @@ pair_count n = n * (n - 1) / 2
 -- where the pairs of n shares stand in their list, and how many there are
 pub record PairsInOrder (n : ℕ) : Type 0 where
   pub pair : (i j : ℕ) → IsPair n i j → slice_get (pairs n) (pair_number n i j) ≡ Some (i, j)
-  pub length : length (pairs n) ≡ pair_count n
+  pub count : length (pairs n) ≡ pair_count n
 
 -- The local numbers of a product: all a_i · b_j, row by row; three wires for each pair; the partial sums of each row,
 -- up to its column number m, of which the last is the output share.
@@ -79,19 +79,19 @@ pub record ProductInOrder (n : ℕ) : Type 0 where
   pub right : (i j : ℕ) → IsPair n i j → slice_get (product_names n) (n * n + 3 * pair_number n i j + 2) ≡ Some (Right i j)
   pub row : (i m : ℕ) → i < n → m < n - 1 →
       slice_get (product_names n) (n * n + 3 * pair_count n + i * (n - 1) + m) ≡ Some (row_wire n i (other i m))
-  pub length : length (product_names n) ≡ n * n + 3 * pair_count n + n * (n - 1)
+  pub count : length (product_names n) ≡ n * n + 3 * pair_count n + n * (n - 1)
 
 -- The local numbers of a refresh: for each pair its fresh bit, the lower share after its update, the higher one after its own.
 pub record RefreshInOrder (n : ℕ) : Type 0 where
   pub fresh : (i j : ℕ) → IsPair n i j → slice_get (refresh_names n) (3 * pair_number n i j) ≡ Some (Fresh i j)
   pub lower : (i j : ℕ) → IsPair n i j → slice_get (refresh_names n) (3 * pair_number n i j + 1) ≡ Some (row_wire n i j)
   pub higher : (i j : ℕ) → IsPair n i j → slice_get (refresh_names n) (3 * pair_number n i j + 2) ≡ Some (row_wire n j i)
-  pub length : length (refresh_names n) ≡ 3 * pair_count n
+  pub count : length (refresh_names n) ≡ 3 * pair_count n
 
 -- A gate that acts share by share has its shares in order.
 pub record SharesInOrder (n : ℕ) : Type 0 where
   pub share : (i : ℕ) → i < n → slice_get (share_names n) i ≡ Some (Share i)
-  pub length : length (share_names n) ≡ n
+  pub count : length (share_names n) ≡ n
 
 -- Each name stands at its local number.
 pub record NamesInOrder (n : ℕ) : Type 0 where

@@ -1,4 +1,5 @@
 //! What is proved of a single gate: which wires it has, what is kept where it is watched, and how little it demands.
+ghost use Rattle.mask_laws.specs.Gadgets.{GateKeeps, MaskIsSymmetric};
 ghost use Rattle.mask_laws.specs.Names.{AllNamesInOrder, GateHasNames};
 ghost use Rattle.mask_laws.specs.Needs.{NeedsAreSmall};
 
@@ -8,19 +9,31 @@ ghost use Rattle.mask_laws.specs.Needs.{NeedsAreSmall};
 /// other gate has its output shares alone.
 pub fn gates_have_names()
     ensures { GateHasNames }
-{
-}
+{}
 
 /// The local number of each wire of a gate: its place in the gate's list of names. With `w = n · (n - 1) / 2` pairs of
 /// `n` shares, a product has `n² + 3w + n(n - 1)` wires and a refresh `3w`.
 pub fn names_stand_in_order()
     ensures { AllNamesInOrder }
-{
-}
+{}
 
 /// Inner probes on a product demand no more shares of either operand than there are probes, and those on a refresh no
 /// more shares of its operand: each probe adds one share at most.
 pub fn probes_demand_few_shares()
     ensures { NeedsAreSmall }
-{
-}
+{}
+
+/// Product and refresh are strongly non-interfering, and the other gates keep what is watched too. Take inner probes and
+/// demanded output shares of a gate, together fewer than its shares, and two sides of operands that agree on the shares
+/// that the probes and the gate demand. Then each probed wire and each demanded output share carries, on the first side
+/// with any fresh bits, what it carries on the second with those fresh bits xored with the gate's mask. Adding a mask only
+/// reorders the fresh bits, so over all of them the watched wires show the same on both sides.
+pub fn gates_keep_what_is_watched()
+    ensures { GateKeeps }
+{}
+
+/// The mask of a gate is the same with the sides changed: what leads from fresh bits of the first side to those of the
+/// second leads back.
+pub fn masks_are_symmetric()
+    ensures { MaskIsSymmetric }
+{}

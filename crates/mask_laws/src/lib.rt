@@ -4,4 +4,7 @@
 #![tactic(auto)]
 
 pub mod bridges;
+pub mod circuits;
 pub mod gadgets;
+pub mod runs;
+pub mod strong;
