@@ -1,7 +1,7 @@
 -- Flips: each demanded row that would change has a partner, and the flip of their bit touches nothing that is watched.
-use Rattle.std.proofs.Common.{◌≡◌, ◌≢◌, ℕ, zero, suc, ◌+◌, ◌<◌, inl, inr, Bool, true, false, cond, not, ◌&&◌, ◌||◌, ◌==◌, nat_lt, List, length, Some, None, Option, refl, sym, ap, ◌∙◌, true≢false, arith, eq-eqb, eqb-true, lt-ltb, le-ltb}
+use Rattle.std.proofs.Common.{◌≡◌, ◌≢◌, ℕ, zero, suc, ◌+◌, ◌<◌, inl, inr, Bool, true, false, cond, not, ◌&&◌, ◌||◌, ◌==◌, nat_lt, List, length, Some, None, Option, refl, sym, ap, ◌∙◌, true≢false, arith, eq-eqb, eqb-true}
 use Rattle.std.specs.List.{list_any}
-use Rattle.std.proofs.lemmas.Bool.{cases_lt, false_from_ne_true, and_parts, not-true, eqb-false}
+use Rattle.std.proofs.lemmas.Bool.{false_from_ne_true, and_parts, not-true, eqb-false}
 use Rattle.mask_circuit.specs.Wires.{Wire}
 use Rattle.mask_circuit.specs.Probing.{size, same_wire}
 use Rattle.mask_circuit.specs.Need.{ShareSet}
@@ -16,7 +16,8 @@ least-Some : (test : ℕ → Bool) (n k : ℕ) → least test n ≡ Some k → (
 least-Some test zero k h = absurd (cc)
 least-Some test (suc n) k h = go (least-Some test n k) (least test n) refl (test n) refl
   where
-    go : (least test n ≡ Some k → (k < n) × (test k ≡ true)) → (o : Option ℕ) → least test n ≡ o → (b : Bool) → test n ≡ b → (k < suc n) × (test k ≡ true)
+    go : (least test n ≡ Some k → (k < n) × (test k ≡ true)) → (o : Option ℕ) → least test n ≡ o → (b : Bool) → test n ≡ b →
+        (k < suc n) × (test k ≡ true)
     go up (Some j) found b at =
         let same : Some j ≡ Some k = rw found at h in
         let below = up (found ∙ same) in (omega (arith, below.0), below.1)
@@ -30,7 +31,8 @@ least-None : (test : ℕ → Bool) (n : ℕ) → least test n ≡ None → (k : 
 least-None test zero h k lt = absurd (omega arith)
 least-None test (suc n) h k lt = go (least-None test n) (least test n) refl (test n) refl
   where
-    go : (least test n ≡ None → (i : ℕ) → i < n → test i ≡ false) → (o : Option ℕ) → least test n ≡ o → (b : Bool) → test n ≡ b → test k ≡ false
+    go : (least test n ≡ None → (i : ℕ) → i < n → test i ≡ false) → (o : Option ℕ) → least test n ≡ o → (b : Bool) → test n ≡ b →
+        test k ≡ false
     go up (Some j) found b at = let never : Some j ≡ None = rw found at h in absurd (cc)
     go up None none true at = let never : Some n ≡ None = rw (none, at) at h in absurd (cc)
     go up None none false at = elim (below_cases k n lt) [ inl l ↦ up none k l | inr e ↦ rw e at ]
@@ -46,7 +48,8 @@ pub record IsPartner (n : ℕ) (wire : ℕ → ℕ → Wire) (Q : List Wire) (T 
   pub unprobed : is_probed Q (wire_between wire i k) ≡ false
 
 -- the partner of a row, if there is one, can serve
-pub partner-Some : (n : ℕ) (wire : ℕ → ℕ → Wire) (Q : List Wire) (T O : ShareSet) (i k : ℕ) → partner n wire Q T O i ≡ Some k → IsPartner n wire Q T O i k
+pub partner-Some : (n : ℕ) (wire : ℕ → ℕ → Wire) (Q : List Wire) (T O : ShareSet) (i k : ℕ) → partner n wire Q T O i ≡ Some k →
+    IsPartner n wire Q T O i k
 partner-Some n wire Q T O i k found =
     let test : ℕ → Bool = λ j. not (j == i) && not (T j) && not (O j) && not (is_probed Q (wire_between wire i j)) in
     let h = least-Some test n k found in
@@ -71,7 +74,8 @@ has_partner n wire Q test O i owner own fits demanded = go (partner n wire Q (λ
     kept : ℕ → Bool
     kept k = list_any (λ w. test k w || same_wire (wire_between wire i k) w) Q
 
-    one_reason : (same touched demanded' probed : Bool) → (same ≡ true → demanded' ≡ true) → (not same && not touched && not demanded' && not probed) ≡ false → (demanded' || (touched || probed)) ≡ true
+    one_reason : (same touched demanded' probed : Bool) → (same ≡ true → demanded' ≡ true) →
+        (not same && not touched && not demanded' && not probed) ≡ false → (demanded' || (touched || probed)) ≡ true
     one_reason same touched true probed h e = refl
     one_reason same true false probed h e = refl
     one_reason same false false true h e = refl
@@ -84,7 +88,8 @@ has_partner n wire Q test O i owner own fits demanded = go (partner n wire Q (λ
         (one_reason (k == i) (list_any (test k) Q) (O k) (is_probed Q (wire_between wire i k)) (λ e. rw (eqb-true k i e) demanded)
         (least-None (λ j. not (j == i) && not (list_any (test j) Q) && not (O j) && not (is_probed Q (wire_between wire i j))) n none k lt))
 
-    go : (o : Option ℕ) → partner n wire Q (λ j. list_any (test j) Q) O i ≡ o → (k : ℕ) × (partner n wire Q (λ j. list_any (test j) Q) O i ≡ Some k)
+    go : (o : Option ℕ) → partner n wire Q (λ j. list_any (test j) Q) O i ≡ o →
+        (k : ℕ) × (partner n wire Q (λ j. list_any (test j) Q) O i ≡ Some k)
     go (Some k) found = (k, found)
     go None none =
         let all = size-all n (λ k. O k || kept k) (all_kept none) in
@@ -98,6 +103,7 @@ has_partner n wire Q test O i owner own fits demanded = go (partner n wire Q (λ
 abbrev pub flip : ℕ → (ℕ → ℕ → Wire) → List Wire → ShareSet → ShareSet → (ℕ → Bool) → ℕ → ℕ → Bool
 flip n wire Q T O changed i j = (O i && not (T i) && changed i) && is_some_of (partner n wire Q T O i) j
 
+-- what an option is, by its test
 is_some_of-true : (o : Option ℕ) (j : ℕ) → is_some_of o j ≡ true → o ≡ Some j
 is_some_of-true None j h = cc
 is_some_of-true (Some k) j h = ap (λ m. Some m) (eqb-true k j h)
@@ -113,7 +119,7 @@ module _ (n : ℕ) (wire : ℕ → ℕ → Wire) (Q : List Wire) (T O : ShareSet
 
   -- no flip touches a row of T ..
   pub flip-from_touched : (i j : ℕ) → T i ≡ true → flip n wire Q T O changed i j ≡ false
-  flip-from_touched i j touched = false_from_ne_true _ (λ h. let f = flip-true i j h in let never = f.1 in true≢false (sym touched ∙ never))
+  flip-from_touched i j touched = false_from_ne_true _ (λ h. let f = flip-true i j h in true≢false (sym touched ∙ f.1))
 
   pub flip-to_touched : (i j : ℕ) → T i ≡ true → flip n wire Q T O changed j i ≡ false
   flip-to_touched i j touched = false_from_ne_true _ (λ h. let f = flip-true j i h in true≢false (sym touched ∙ f.2.untouched))
@@ -127,7 +133,8 @@ module _ (n : ℕ) (wire : ℕ → ℕ → Wire) (Q : List Wire) (T O : ShareSet
   flip-to_demanded i j demanded = false_from_ne_true _ (λ h. let f = flip-true j i h in true≢false (sym demanded ∙ f.2.free))
 
   -- a demanded row that isn't touched has its flips at its partner, if it changed
-  pub flip-at_partner : (i j p : ℕ) → O i ≡ true → T i ≡ false → partner n wire Q T O i ≡ Some p → flip n wire Q T O changed i j ≡ (changed i && p == j)
+  pub flip-at_partner : (i j p : ℕ) → O i ≡ true → T i ≡ false → partner n wire Q T O i ≡ Some p →
+      flip n wire Q T O changed i j ≡ (changed i && p == j)
   flip-at_partner i j p demanded untouched found = rw (demanded, untouched, found) refl
 
 -- THE WIRE BETWEEN TWO ROWS
@@ -140,14 +147,11 @@ wire_between-is P wire i k forth back = go (nat_lt i k)
     go true = forth
     go false = back
 
--- it doesn't depend on their order
-pub wire_between_comm : (wire : ℕ → ℕ → Wire) (i j : ℕ) → i ≢ j → wire_between wire i j ≡ wire_between wire j i
-wire_between_comm wire i j ne = elim (cases_lt i j) [ inl l ↦ rw (lt-ltb i j l, le-ltb j i (omega arith)) refl | inr g ↦ rw (le-ltb i j g, lt-ltb j i (omega arith)) refl ]
-
 -- the row at the other end of the wire between a and b, seen from row i
 pub other_end : ℕ → ℕ → ℕ → ℕ
 other_end i a b = cond (a == i) b a
 
+-- if the wire from i to k is the one from a to b, k is at its other end ..
 pub other_end-forth : (i k a b : ℕ) → (i == a && k == b) ≡ true → k ≡ other_end i a b
 unfolding other_end
 other_end-forth i k a b h =
@@ -155,6 +159,7 @@ other_end-forth i k a b h =
     let at = eq-eqb a i (sym (eqb-true i a e.0)) in
     rw at (eqb-true k b e.1)
 
+-- .. and so it is if the wire from k to i is
 pub other_end-back : (i k a b : ℕ) → (k == a && i == b) ≡ true → k ≡ other_end i a b
 unfolding other_end
 other_end-back i k a b h =

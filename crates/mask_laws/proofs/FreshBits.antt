@@ -39,4 +39,5 @@ fresh_of-map f (p ∷ ps) i j h = go (fresh_of-map f ps i j) (Contains-cons_case
 pub fresh_of-masked : (f : ℕ → ℕ → Bool) (ps : List Pair) (r : List Bool) (i j : ℕ) → length r ≡ length ps → Contains ps (i, j) →
     fresh_of bits ps (add_bits r (map (λ p. f p.0 p.1) ps)) i j ≡ xor (fresh_of bits ps r i j) (f i j)
 fresh_of-masked f ps r i j e h =
-    fresh_of-add_bits ps r (map (λ p. f p.0 p.1) ps) i j e (length-map ps (λ p. f p.0 p.1)) ∙ ap (λ b. xor (fresh_of bits ps r i j) b) (fresh_of-map f ps i j h)
+    fresh_of-add_bits ps r (map (λ p. f p.0 p.1) ps) i j e (length-map ps (λ p. f p.0 p.1))
+    ∙ ap (λ b. xor (fresh_of bits ps r i j) b) (fresh_of-map f ps i j h)

@@ -23,19 +23,25 @@ on_second n g Q O s s' r ws = map (gate_wire bits n g s' (add_bits r (gate_mask 
 
 -- A product on three shares with v of the pair (0, 1) probed and output share 2 demanded, from operands (1, 0, 0) and
 -- (0, 1, 0) to zeros: both wires carry the same, as they wouldn't with the fresh bits left alone.
-product_first : map (gate_wire bits 3 (And 0 1) (shared ((true ∷ false ∷ false ∷ []) ∷ (false ∷ true ∷ false ∷ []) ∷ [])) (false ∷ false ∷ false ∷ [])) (Left 0 1 ∷ Share 2 ∷ [])
-    ≡ true ∷ false ∷ []
-unfolding shared
+operands : ℕ → Shares Bool
+operands = shared ((true ∷ false ∷ false ∷ []) ∷ (false ∷ true ∷ false ∷ []) ∷ [])
+
+fresh_zeros : List Bool
+fresh_zeros = false ∷ false ∷ false ∷ []
+
+watched : List Wire
+watched = Left 0 1 ∷ Share 2 ∷ []
+
+product_first : map (gate_wire bits 3 (And 0 1) operands fresh_zeros) watched ≡ true ∷ false ∷ []
+unfolding shared operands fresh_zeros watched
 product_first = refl
 
-product_second : on_second 3 (And 0 1) (Left 0 1 ∷ []) (among (false ∷ false ∷ true ∷ [])) (shared ((true ∷ false ∷ false ∷ []) ∷ (false ∷ true ∷ false ∷ []) ∷ [])) (shared [])
-    (false ∷ false ∷ false ∷ []) (Left 0 1 ∷ Share 2 ∷ [])
-    ≡ true ∷ false ∷ []
-unfolding on_second shared among
+product_second : on_second 3 (And 0 1) (Left 0 1 ∷ []) (among (false ∷ false ∷ true ∷ [])) operands (shared []) fresh_zeros watched ≡ true ∷ false ∷ []
+unfolding on_second shared among operands fresh_zeros watched
 product_second = refl
 
-product_unmasked : map (gate_wire bits 3 (And 0 1) (shared []) (false ∷ false ∷ false ∷ [])) (Left 0 1 ∷ Share 2 ∷ []) ≡ false ∷ false ∷ []
-unfolding shared
+product_unmasked : map (gate_wire bits 3 (And 0 1) (shared []) fresh_zeros) watched ≡ false ∷ false ∷ []
+unfolding shared fresh_zeros watched
 product_unmasked = refl
 
 -- A refresh of two shares with both output shares demanded, which are as many as there are shares: from (0, 0) to
@@ -44,7 +50,8 @@ refresh_first : map (gate_wire bits 2 (Ref 0) (shared []) (false ∷ [])) (Share
 unfolding shared
 refresh_first = refl
 
-refresh_second : on_second 2 (Ref 0) [] (among (true ∷ true ∷ [])) (shared []) (shared ((true ∷ false ∷ []) ∷ [])) (false ∷ []) (Share 0 ∷ Share 1 ∷ []) ≡ true ∷ false ∷ []
+refresh_second : on_second 2 (Ref 0) [] (among (true ∷ true ∷ [])) (shared []) (shared ((true ∷ false ∷ []) ∷ [])) (false ∷ []) (Share 0 ∷ Share 1 ∷ [])
+    ≡ true ∷ false ∷ []
 unfolding on_second shared among
 refresh_second = refl
 

@@ -1,5 +1,5 @@
 -- The local numbers of a gate's wires.
-use Rattle.std.proofs.Common.{◌≡◌, ℕ, zero, suc, pred, ◌+◌, ◌-◌, ◌*◌, ◌/◌, ◌<◌, ◌≤◌, ◌++◌, length, flat_map, slice_get, Some, refl, ◌∙◌, subst, arith, length-append}
+use Rattle.std.proofs.Common.{◌≡◌, ℕ, zero, suc, pred, ◌+◌, ◌-◌, ◌*◌, ◌/◌, ◌<◌, ◌≤◌, ◌++◌, length, flat_map, slice_get, Some, refl, ◌∙◌, subst, arith, add-zero, length-append}
 use Rattle.mask_circuit.specs.Wires.{Wire, Share, Product, Fresh, Left, Right, Pair, each, joined, row_pairs, pairs, other, row_wire, product_names, refresh_names}
 use Rattle.mask_laws.specs.Names.{IsPair, pairs_before, pair_number, pair_count, PairsInOrder, ProductInOrder, RefreshInOrder, SharesInOrder, NamesInOrder}
 use Rattle.mask_laws.proofs.Names.{products, of_pair, rows, updates}
@@ -7,17 +7,20 @@ use Rattle.mask_laws.proofs.Places.{slice_get-append_front, back_at, length-each
 
 -- PAIRS
 
+-- the pairs before those of row i, counted
 length-rows_before : (n i : ℕ) → length (joined (row_pairs n) i) ≡ pairs_before n i
 length-rows_before n zero = refl
 length-rows_before n (suc i) =
     let up = length-rows_before n i in
-    omega (arith, length-append (joined (row_pairs n) i) (row_pairs n i), length-each {A = Pair} (λ (m : ℕ). (i, suc i + m)) (n - suc i))
+    let here = length-each {A = Pair} (λ (m : ℕ). (i, suc i + m)) (n - suc i) in
+    omega (arith, length-append (joined (row_pairs n) i) (row_pairs n i))
 
 -- twice the sum of n - 1, n - 2, .., n - i
 twice_before : (n i : ℕ) → i ≤ n → 2 * pairs_before n i + i * suc i ≡ 2 * (i * n)
 twice_before n zero le = omega arith
 twice_before n (suc i) le = let up = twice_before n i (omega arith) in omega arith
 
+-- so all of them are half of n · (n - 1)
 half : (a b : ℕ) → 2 * a ≡ b → a ≡ b / 2
 half a b e = omega arith
 
@@ -31,13 +34,17 @@ count_is (suc n) =
 length-pairs : (n : ℕ) → length (pairs n) ≡ pair_count n
 length-pairs n = length-rows_before n n ∙ count_is n
 
+-- the pair (i, j) in its row, and in the whole list
+in_row : (n i j : ℕ) → IsPair n i j → slice_get (row_pairs n i) (j - suc i) ≡ Some (i, j)
+in_row n i j is =
+    let second : suc i + (j - suc i) ≡ j = omega (arith, is.0) in
+    subst (λ (k : ℕ). slice_get (row_pairs n i) (j - suc i) ≡ Some (i, k)) second
+    (slice_get-each {A = Pair} (λ (k : ℕ). (i, suc i + k)) (n - suc i) (j - suc i) (omega (arith, is.0, is.1)))
+
 pair_at : (n i j : ℕ) → IsPair n i j → slice_get (pairs n) (pair_number n i j) ≡ Some (i, j)
 pair_at n i j is =
-    let m : ℕ = j - suc i in
-    let second : suc i + m ≡ j = omega (arith, is.0) in
-    let in_row : slice_get (row_pairs n i) m ≡ Some (i, j) =
-    subst (λ (k : ℕ). slice_get (row_pairs n i) m ≡ Some (i, k)) second (slice_get-each {A = Pair} (λ (k : ℕ). (i, suc i + k)) (n - suc i) m (omega (arith, is.0, is.1))) in
-    rw (← (length-rows_before n i)) (slice_get-joined (row_pairs n) n i m (i, j) (omega (arith, is.0, is.1)) in_row)
+    rw (← (length-rows_before n i))
+    (slice_get-joined (row_pairs n) n i (j - suc i) (i, j) (omega (arith, is.0, is.1)) (in_row n i j is))
 
 pub pairs_in_order : (n : ℕ) → PairsInOrder n
 pairs_in_order n = record { pair = pair_at n; count = length-pairs n }
@@ -49,6 +56,7 @@ shares_in_order n = record { share = slice_get-each Share n; count = length-each
 
 -- PRODUCTS
 
+-- the first part of the list: its length, and the name of a_i · b_j in it
 length-products : (n : ℕ) → length (products n) ≡ n * n
 unfolding products
 length-products n = length-joined (λ i. each (Product i) n) n n (λ i. length-each (Product i) n)
@@ -59,14 +67,17 @@ product_at n i j hi hj =
     rw (← (length-joined (λ k. each (Product k) n) n i (λ k. length-each (Product k) n)))
     (slice_get-joined (λ k. each (Product k) n) n i j (Product i j) hi (slice_get-each (Product i) n j hj))
 
+-- the second part: the wires of each pair
 length-pair_wires : (n : ℕ) → length (flat_map of_pair (pairs n)) ≡ 3 * pair_count n
 unfolding of_pair
 length-pair_wires n = rw (length-threes of_pair (pairs n) (λ q. refl), length-pairs n) refl
 
-pair_wire_at : (n i j t : ℕ) (w : Wire) → IsPair n i j → slice_get (of_pair (i, j)) t ≡ Some w → slice_get (flat_map of_pair (pairs n)) (3 * pair_number n i j + t) ≡ Some w
+pair_wire_at : (n i j t : ℕ) (w : Wire) → IsPair n i j → slice_get (of_pair (i, j)) t ≡ Some w →
+    slice_get (flat_map of_pair (pairs n)) (3 * pair_number n i j + t) ≡ Some w
 unfolding of_pair
 pair_wire_at n i j t w is h = slice_get-threes of_pair (pairs n) (pair_number n i j) t (i, j) w (λ q. refl) (pair_at n i j is) h
 
+-- the last part: the rows
 length-row : (n i : ℕ) → length (each (λ m. row_wire n i (other i m)) (pred n)) ≡ n - 1
 length-row n i = length-each (λ m. row_wire n i (other i m)) (pred n) ∙ omega arith
 
@@ -81,26 +92,28 @@ row_at n i m hi hm =
     (slice_get-joined (λ k. each (λ c. row_wire n k (other k c)) (pred n)) n i m (row_wire n i (other i m)) hi
     (slice_get-each (λ c. row_wire n i (other i c)) (pred n) m (omega arith)))
 
--- a wire of the pair (i, j) in the whole list
-product_pair_at : (n i j t k : ℕ) (w : Wire) → k ≡ n * n + (3 * pair_number n i j + t) → IsPair n i j → slice_get (of_pair (i, j)) t ≡ Some w → slice_get (product_names n) k ≡ Some w
+-- a wire of the pair (i, j) in the whole list, and one of row i
+product_pair_at : (n i j t k : ℕ) (w : Wire) → k ≡ n * n + (3 * pair_number n i j + t) → IsPair n i j → slice_get (of_pair (i, j)) t ≡ Some w →
+    slice_get (product_names n) k ≡ Some w
 unfolding products of_pair rows
 product_pair_at n i j t k w e is h =
     slice_get-append_front (products n ++ flat_map of_pair (pairs n)) (rows n) k w
-    (back_at (products n) (flat_map of_pair (pairs n)) (3 * pair_number n i j + t) k w (rw (length-products n) e) (pair_wire_at n i j t w is h))
+    (back_at (products n) (flat_map of_pair (pairs n)) (3 * pair_number n i j + t) k w (rw (length-products n) e)
+    (pair_wire_at n i j t w is h))
 
-product_row_at : (n i m : ℕ) → i < n → m < n - 1 → slice_get (product_names n) (n * n + 3 * pair_count n + i * (n - 1) + m) ≡ Some (row_wire n i (other i m))
+length-front : (n : ℕ) → length (products n ++ flat_map of_pair (pairs n)) ≡ n * n + 3 * pair_count n
+length-front n = rw (length-append (products n) (flat_map of_pair (pairs n)), length-products n, length-pair_wires n) refl
+
+product_row_at : (n i m : ℕ) → i < n → m < n - 1 →
+    slice_get (product_names n) (n * n + 3 * pair_count n + i * (n - 1) + m) ≡ Some (row_wire n i (other i m))
 unfolding products of_pair rows
 product_row_at n i m hi hm =
-    let front : length (products n ++ flat_map of_pair (pairs n)) ≡ n * n + 3 * pair_count n =
-    omega (arith, length-append (products n) (flat_map of_pair (pairs n)), length-products n, length-pair_wires n) in
-    back_at (products n ++ flat_map of_pair (pairs n)) (rows n) (i * (n - 1) + m) _ _ (rw front (omega arith)) (row_at n i m hi hm)
+    back_at (products n ++ flat_map of_pair (pairs n)) (rows n) (i * (n - 1) + m) _ _ (rw (length-front n) (omega arith)) (row_at n i m hi hm)
 
 length-product_names : (n : ℕ) → length (product_names n) ≡ n * n + 3 * pair_count n + n * (n - 1)
 unfolding products of_pair rows
 length-product_names n =
-    let front = length-append (products n ++ flat_map of_pair (pairs n)) (rows n) in
-    let middle = length-append (products n) (flat_map of_pair (pairs n)) in
-    rw (front, middle, length-products n, length-pair_wires n, length-rows n) refl
+    rw (length-append (products n ++ flat_map of_pair (pairs n)) (rows n), length-front n, length-rows n) refl
 
 pub product_in_order : (n : ℕ) → ProductInOrder n
 unfolding products of_pair rows
@@ -116,14 +129,15 @@ product_in_order n = record {
 
 -- REFRESHES
 
-update_at : (n i j t : ℕ) (w : Wire) → IsPair n i j → slice_get (updates n (i, j)) t ≡ Some w → slice_get (refresh_names n) (3 * pair_number n i j + t) ≡ Some w
+update_at : (n i j t : ℕ) (w : Wire) → IsPair n i j → slice_get (updates n (i, j)) t ≡ Some w →
+    slice_get (refresh_names n) (3 * pair_number n i j + t) ≡ Some w
 unfolding updates
 update_at n i j t w is h = slice_get-threes (updates n) (pairs n) (pair_number n i j) t (i, j) w (λ q. refl) (pair_at n i j is) h
 
 pub refresh_in_order : (n : ℕ) → RefreshInOrder n
 unfolding updates
 refresh_in_order n = record {
-  fresh = λ i j is. (let at : 3 * pair_number n i j + 0 ≡ 3 * pair_number n i j = omega arith in rw at at (update_at n i j 0 (Fresh i j) is refl));
+  fresh = λ i j is. rw add-zero at (update_at n i j 0 (Fresh i j) is refl);
   lower = λ i j is. update_at n i j 1 (row_wire n i j) is refl;
   higher = λ i j is. update_at n i j 2 (row_wire n j i) is refl;
   count = rw (length-threes (updates n) (pairs n) (λ q. refl), length-pairs n) refl;

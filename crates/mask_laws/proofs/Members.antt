@@ -57,7 +57,8 @@ pub joined_piece : {A : Type 0} (f : ℕ → List A) (n : ℕ) (x : A) → Conta
 joined_piece f zero x h = absurd (none_in_nil x h)
 joined_piece f (suc n) x h = go (joined_piece f n x) (Contains-append_cases (joined f n) (f n) x h)
   where
-    go : (Contains (joined f n) x → (i : ℕ) × (i < n) × Contains (f i) x) → Contains (joined f n) x ⊎ Contains (f n) x → (i : ℕ) × (i < suc n) × Contains (f i) x
+    go : (Contains (joined f n) x → (i : ℕ) × (i < n) × Contains (f i) x) → Contains (joined f n) x ⊎ Contains (f n) x →
+        (i : ℕ) × (i < suc n) × Contains (f i) x
     go up (inl g) = let r = up g in (r.0, omega (arith, r.1), r.2)
     go up (inr e) = (n, omega arith, e)
 
@@ -74,7 +75,8 @@ pub flat_map_piece : {A B : Type 0} (f : A → List B) (ps : List A) (x : B) →
 flat_map_piece f [] x h = absurd (none_in_nil x h)
 flat_map_piece f (p ∷ ps) x h = go (flat_map_piece f ps x) (Contains-append_cases (f p) (flat_map f ps) x h)
   where
-    go : (Contains (flat_map f ps) x → (q : _) × Contains ps q × Contains (f q) x) → Contains (f p) x ⊎ Contains (flat_map f ps) x → (q : _) × Contains (p ∷ ps) q × Contains (f q) x
+    go : (Contains (flat_map f ps) x → (q : _) × Contains ps q × Contains (f q) x) → Contains (f p) x ⊎ Contains (flat_map f ps) x →
+        (q : _) × Contains (p ∷ ps) q × Contains (f q) x
     go up (inl g) = (p, Contains-first p ps, g)
     go up (inr g) = let r = up g in (r.0, Contains-later p ps r.0 r.1, r.2)
 

@@ -40,7 +40,10 @@ other-apart i m = elim (cases_lt m i) [ inl l ↦ rw (lt-ltb m i l) (omega arith
 -- .. and each column but i is among them
 other_at : (n i k : ℕ) → i < n → k < n → i ≢ k → (m : ℕ) × (m < pred n) × (other i m ≡ k)
 other_at n i k hi hk ne =
-    elim (cases_lt k i) [ inl l ↦ (k, omega arith, rw (lt-ltb k i l) refl) | inr g ↦ (pred k, omega arith, rw (le-ltb (pred k) i (omega arith)) (omega arith)) ]
+    elim (cases_lt k i) [
+      | inl l ↦ (k, omega arith, rw (lt-ltb k i l) refl)
+      | inr g ↦ (pred k, omega arith, rw (le-ltb (pred k) i (omega arith)) (omega arith))
+    ]
 
 -- the wire of row i at column k is a partial sum, or an output share at the last column
 row_wire-inner : (n i k : ℕ) → is_last n i k ≡ false → row_wire n i k ≡ Partial i k
@@ -50,7 +53,8 @@ row_wire-last : (n i k : ℕ) → is_last n i k ≡ true → row_wire n i k ≡ 
 row_wire-last n i k e = cond-true (is_last n i k) (Share i) (Partial i k) e
 
 -- what holds of the output share and of an inner column holds of the wire
-row_wire-is : (P : Wire → Type 0) (n i k : ℕ) → i < n → k < n → i ≢ k → P (Share i) → (IsInnerColumn n i k → P (Partial i k)) → P (row_wire n i k)
+row_wire-is : (P : Wire → Type 0) (n i k : ℕ) → i < n → k < n → i ≢ k → P (Share i) → (IsInnerColumn n i k → P (Partial i k)) →
+    P (row_wire n i k)
 row_wire-is P n i k hi hk ne last inner = go (is_last n i k) refl
   where
     go : (b : Bool) → is_last n i k ≡ b → P (row_wire n i k)
@@ -61,12 +65,18 @@ row_wire-is P n i k hi hk ne last inner = go (is_last n i k) refl
 has_last : (n i : ℕ) → 2 ≤ n → i < n → (k : ℕ) × (k < n) × (i ≢ k) × (is_last n i k ≡ true)
 has_last n i two hi =
     elim (cases_eq (suc i) n) [
-      | inl e ↦ (pred (pred n), omega arith, omega arith, or_right (suc (pred (pred n)) == n) _ (and_from _ _ (eq-eqb (suc i) n e) (eq-eqb _ _ (omega arith))))
+      | inl e ↦ (
+        pred (pred n),
+        omega arith,
+        omega arith,
+        or_right (suc (pred (pred n)) == n) _ (and_from _ _ (eq-eqb (suc i) n e) (eq-eqb _ _ (omega arith))),
+      )
       | inr ne ↦ (pred n, omega arith, omega arith, or_left _ _ (eq-eqb (suc (pred n)) n (omega arith)))
     ]
 
 -- SHARES
 
+-- each name in the list has its shape, and each shape is in the list
 share_forward : (n : ℕ) (w : Wire) → Contains (share_names n) w → IsShareName n w
 share_forward n w h = let r = each_place Share n w h in subst (IsShareName n) r.2 r.1
 
@@ -92,6 +102,7 @@ of_pair p = Fresh p.0 p.1 ∷ Left p.0 p.1 ∷ Right p.0 p.1 ∷ []
 unfoldable pub rows : ℕ → List Wire
 rows n = joined (λ i. each (λ m. row_wire n i (other i m)) (pred n)) n
 
+-- each name in a part of the list has its shape ..
 products_forward : (n : ℕ) (w : Wire) → Contains (products n) w → IsProductName n w
 unfolding products
 products_forward n w h =
@@ -126,10 +137,12 @@ product_forward n w h =
       | inr in_rows ↦ rows_forward n w in_rows
     ]
 
+-- .. each part is in the list ..
 product_at : (n : ℕ) (w : Wire) → Contains (products n) w → Contains (product_names n) w
 unfolding products of_pair rows
 product_at n w h =
-    Contains-append_left (products n ++ flat_map of_pair (pairs n)) (rows n) w (Contains-append_left (products n) (flat_map of_pair (pairs n)) w h)
+    Contains-append_left (products n ++ flat_map of_pair (pairs n)) (rows n) w
+    (Contains-append_left (products n) (flat_map of_pair (pairs n)) w h)
 
 pair_wire_at : (n i j : ℕ) (w : Wire) → IsPair n i j → Contains (of_pair (i, j)) w → Contains (product_names n) w
 unfolding products of_pair rows
@@ -146,6 +159,7 @@ row_at n i k hi hk ne =
     (subst (λ (c : ℕ). Contains (each (λ m. row_wire n i (other i m)) (pred n)) (row_wire n i c)) m.2
     (Contains-each (λ m. row_wire n i (other i m)) (pred n) m.0 m.1)))
 
+-- .. and so each shape is
 product_backward : (n : ℕ) (w : Wire) → 2 ≤ n → IsProductName n w → Contains (product_names n) w
 unfolding products of_pair
 product_backward n (Share i) two h =
@@ -164,6 +178,7 @@ product_backward n (Partial i k) two h =
 unfoldable pub updates : ℕ → Pair → List Wire
 updates n p = Fresh p.0 p.1 ∷ row_wire n p.0 p.1 ∷ row_wire n p.1 p.0 ∷ []
 
+-- each name in the list has its shape ..
 refresh_forward : (n : ℕ) (w : Wire) → Contains (refresh_names n) w → IsRefreshName n w
 unfolding updates
 refresh_forward n w h =
@@ -178,6 +193,7 @@ refresh_forward n w h =
     (row_wire-is (IsRefreshName n) n i j low is.1 apart low (λ inner. inner))
     (row_wire-is (IsRefreshName n) n j i is.1 low apart' is.1 (λ inner. inner)) r.2
 
+-- .. the wires of each pair are in the list, so each update of a share is ..
 update_at : (n i j : ℕ) (w : Wire) → IsPair n i j → Contains (updates n (i, j)) w → Contains (refresh_names n) w
 unfolding updates
 update_at n i j w is h = Contains-flat_map (updates n) (pairs n) (i, j) w (Contains-pairs n i j is) h
@@ -190,6 +206,7 @@ update_of n i k hi hk ne =
       | inr g ↦ update_at n k i (row_wire n i k) (omega arith, hi) (third_of_three (Fresh k i) (row_wire n k i) (row_wire n i k))
     ]
 
+-- .. and so each shape is
 refresh_backward : (n : ℕ) (w : Wire) → 2 ≤ n → IsRefreshName n w → Contains (refresh_names n) w
 unfolding updates
 refresh_backward n (Share i) two h =

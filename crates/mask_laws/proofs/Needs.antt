@@ -76,14 +76,16 @@ update_is i (Partial k l) h = sym (eqb-true k i h)
 
 size-left_need : (N : ℕ) (Q : List Wire) → size N (left_need Q) ≤ length Q
 size-left_need N Q =
-    let one_test = size-mono N (left_need Q) (λ i. list_any (λ w. is_of_row i w || demands_left i w) Q) (λ i lt h. rw (← (list_any-or (is_of_row i) (demands_left i) Q)) h) in
+    let one_test = size-mono N (left_need Q) (λ i. list_any (λ w. is_of_row i w || demands_left i w) Q)
+    (λ i lt h. rw (← (list_any-or (is_of_row i) (demands_left i) Q)) h) in
     let few = size-owned N (λ i w. is_of_row i w || demands_left i w) row_of Q left_owner in omega arith
 
 size-right_need : (N : ℕ) (Q : List Wire) → size N (right_need Q) ≤ length Q
 size-right_need N Q =
     let one_test = size-mono N (right_need Q) (λ i. list_any (λ w. is_of_row i w || demands_right (product_rows Q) i w) Q)
     (λ i lt h. rw (← (list_any-or (is_of_row i) (demands_right (product_rows Q) i) Q)) h) in
-    let few = size-owned N (λ i w. is_of_row i w || demands_right (product_rows Q) i w) (right_of (product_rows Q)) Q (right_owner (product_rows Q)) in omega arith
+    let few = size-owned N (λ i w. is_of_row i w || demands_right (product_rows Q) i w) (right_of (product_rows Q)) Q (right_owner (product_rows Q)) in
+    omega arith
 
 pub needs_are_small : NeedsAreSmall
 needs_are_small N Q = (size-left_need N Q, size-right_need N Q, size-owned N is_update_of row_of Q update_is)

@@ -30,11 +30,13 @@ slice_get-each f (suc n) i lt = go (slice_get-each f n i) (below_cases i n lt)
     go up (inr e) = back_at (each f n) (f n ∷ []) 0 i (f i) (omega (arith, length-each f n)) (ap (λ m. Some (f m)) (sym e))
 
 -- element m of piece i stands after the pieces before it
-pub slice_get-joined : {A : Type 0} (f : ℕ → List A) (n i m : ℕ) (x : A) → i < n → slice_get (f i) m ≡ Some x → slice_get (joined f n) (length (joined f i) + m) ≡ Some x
+pub slice_get-joined : {A : Type 0} (f : ℕ → List A) (n i m : ℕ) (x : A) → i < n → slice_get (f i) m ≡ Some x →
+    slice_get (joined f n) (length (joined f i) + m) ≡ Some x
 slice_get-joined f zero i m x lt h = absurd (omega arith)
 slice_get-joined f (suc n) i m x lt h = go (λ l. slice_get-joined f n i m x l h) (below_cases i n lt)
   where
-    go : (i < n → slice_get (joined f n) (length (joined f i) + m) ≡ Some x) → (i < n) ⊎ (i ≡ n) → slice_get (joined f n ++ f n) (length (joined f i) + m) ≡ Some x
+    go : (i < n → slice_get (joined f n) (length (joined f i) + m) ≡ Some x) → (i < n) ⊎ (i ≡ n) →
+        slice_get (joined f n ++ f n) (length (joined f i) + m) ≡ Some x
     go up (inl l) = slice_get-append_front (joined f n) (f n) _ x (up l)
     go up (inr e) = back_at (joined f n) (f n) m _ x (rw e refl) (subst (λ (k : ℕ). slice_get (f k) m ≡ Some x) e h)
 

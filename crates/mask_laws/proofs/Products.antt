@@ -34,7 +34,8 @@ unfolding kept_from
 same_kept i k (Share c) h = wire_between-is (λ v. same_wire v (Share c) ≡ true → k ≡ 0) Left i k (λ e. cc) (λ e. cc) h
 same_kept i k (Product c d) h = wire_between-is (λ v. same_wire v (Product c d) ≡ true → k ≡ c) Left i k (λ e. cc) (λ e. cc) h
 same_kept i k (Fresh c d) h = wire_between-is (λ v. same_wire v (Fresh c d) ≡ true → k ≡ c) Left i k (λ e. cc) (λ e. cc) h
-same_kept i k (Left c d) h = wire_between-is (λ v. same_wire v (Left c d) ≡ true → k ≡ other_end i c d) Left i k (other_end-forth i k c d) (other_end-back i k c d) h
+same_kept i k (Left c d) h =
+    wire_between-is (λ v. same_wire v (Left c d) ≡ true → k ≡ other_end i c d) Left i k (other_end-forth i k c d) (other_end-back i k c d) h
 same_kept i k (Right c d) h = wire_between-is (λ v. same_wire v (Right c d) ≡ true → k ≡ d) Left i k (λ e. cc) (λ e. cc) h
 same_kept i k (Partial c d) h = wire_between-is (λ v. same_wire v (Partial c d) ≡ true → k ≡ c) Left i k (λ e. cc) (λ e. cc) h
 
@@ -47,10 +48,12 @@ row_kept i k (Left c d) h = cc
 row_kept i k (Right c d) h = row_is k (Right c d) h
 row_kept i k (Partial c d) h = row_is k (Partial c d) h
 
-product_partner : (n : ℕ) (Q : List Wire) (O : ShareSet) (i : ℕ) → FitsGate n Q O → O i ≡ true → (k : ℕ) × (partner n Left Q (product_rows Q) O i ≡ Some k)
+product_partner : (n : ℕ) (Q : List Wire) (O : ShareSet) (i : ℕ) → FitsGate n Q O → O i ≡ true →
+    (k : ℕ) × (partner n Left Q (product_rows Q) O i ≡ Some k)
 product_partner n Q O i fits demanded =
     has_partner n Left Q is_of_row O i (kept_from i)
-    (λ k w h. elim (or_cases (is_of_row k w) (same_wire (wire_between Left i k) w) h) [ inl e ↦ row_kept i k w e | inr e ↦ same_kept i k w e ]) fits demanded
+    (λ k w h. elim (or_cases (is_of_row k w) (same_wire (wire_between Left i k) w) h) [ inl e ↦ row_kept i k w e | inr e ↦ same_kept i k w e ])
+    fits demanded
 
 -- CHANGES
 
@@ -66,7 +69,8 @@ term-xor a b i j = xor-change (a.one i && b.one j) (a.two i && b.two j)
 two_terms : (r r' m p p' d : Bool) → r' ≡ xor r m → p' ≡ xor p d → xor r' p' ≡ xor (xor r p) (xor m d)
 two_terms r r' m p p' d er ep = rw (er, ep) (xor-xor r m p d)
 
-three_terms : (r r' m p p' d q q' e : Bool) → r' ≡ xor r m → p' ≡ xor p d → q' ≡ xor q e → xor (xor r' p') q' ≡ xor (xor (xor r p) q) (xor (xor m d) e)
+three_terms : (r r' m p p' d q q' e : Bool) → r' ≡ xor r m → p' ≡ xor p d → q' ≡ xor q e →
+    xor (xor r' p') q' ≡ xor (xor (xor r p) q) (xor (xor m d) e)
 three_terms r r' m p p' d q q' e er ep eq = two_terms (xor r p) (xor r' p') (xor m d) q q' e (two_terms r r' m p p' d er ep) eq
 
 -- where the fresh bits differ by m, each r_ij differs by its change ..
@@ -86,7 +90,8 @@ row-xor : (n : ℕ) (a b : Sides) (r r' m : ℕ → ℕ → Bool) → ((i j : �
     ≡ xor (row_sum bits (a.one i && b.one i) (cross bits a.one b.one r i) i k) (row_sum bits (product_change a b i i) (cross_change a b m i) i k)
 row-xor n a b r r' m differ i k hi hk =
     row_sum-same (a.two i && b.two i) (xor (a.one i && b.one i) (product_change a b i i)) (cross bits a.two b.two r' i)
-    (λ j. xor (cross bits a.one b.one r i j) (cross_change a b m i j)) i k (term-xor a b i i) (λ j le ne. cross-xor n a b r r' m differ i j hi (omega arith) ne)
+    (λ j. xor (cross bits a.one b.one r i j) (cross_change a b m i j)) i k
+    (term-xor a b i i) (λ j le ne. cross-xor n a b r r' m differ i j hi (omega arith) ne)
     ∙ row_sum-xor (a.one i && b.one i) (product_change a b i i) (cross bits a.one b.one r i) (cross_change a b m i) i k
 
 -- THE LAW
@@ -132,10 +137,12 @@ module _ (n : ℕ) (Q : List Wire) (O : ShareSet) (a b : Sides) (r r' : ℕ → 
 
   -- what a probe demands of an operand
   left_demanded : (i : ℕ) (w : Wire) → i < n → Contains Q w → demands_left i w ≡ true → a.one i ≡ a.two i
-  left_demanded i w hi probed demands = agree.left i hi (or_right (T i) (list_any (demands_left i) Q) (list_any-passes (demands_left i) Q w probed demands))
+  left_demanded i w hi probed demands =
+      agree.left i hi (or_right (T i) (list_any (demands_left i) Q) (list_any-passes (demands_left i) Q w probed demands))
 
   right_demanded : (i : ℕ) (w : Wire) → i < n → Contains Q w → demands_right T i w ≡ true → b.one i ≡ b.two i
-  right_demanded i w hi probed demands = agree.right i hi (or_right (T i) (list_any (demands_right T i) Q) (list_any-passes (demands_right T i) Q w probed demands))
+  right_demanded i w hi probed demands =
+      agree.right i hi (or_right (T i) (list_any (demands_right T i) Q) (list_any-passes (demands_right T i) Q w probed demands))
 
   -- the change of r_ij under the mask is that under the base with the flips for both rows
   cross_change-mask : (i j : ℕ) → cross_change a b mask i j ≡ xor (cross_change a b base i j) (xor (flip_for i j) (flip_for j i))
@@ -156,7 +163,11 @@ module _ (n : ℕ) (Q : List Wire) (O : ShareSet) (a b : Sides) (r r' : ℕ → 
       go : (below t : Bool) → T j ≡ t → cond below (base i j) (xor (xor (base j i) (product_change a b j i)) (product_change a b i j)) ≡ false
       go true t at = rw touched refl
       go false true at =
-          rw (at, no_change a b j i (left_touched j hj at) (right_touched i hi touched), no_change a b i j (left_touched i hi touched) (right_touched j hj at)) refl
+          rw (
+            at,
+            no_change a b j i (left_touched j hj at) (right_touched i hi touched),
+            no_change a b i j (left_touched i hi touched) (right_touched j hj at),
+          ) refl
       go false false at = rw (at, touched) (both_twice (product_change a b j i) (product_change a b i j))
 
   -- .. nor does it under the mask
@@ -179,8 +190,8 @@ module _ (n : ℕ) (Q : List Wire) (O : ShareSet) (a b : Sides) (r r' : ℕ → 
   kept_row : (i k : ℕ) → i < n → k < n → row_sum bits (product_change a b i i) (cross_change a b mask i) i k ≡ false →
       row_sum bits (a.one i && b.one i) (cross bits a.one b.one r i) i k ≡ row_sum bits (a.two i && b.two i) (cross bits a.two b.two r' i) i k
   kept_row i k hi hk none =
-      same_under_no_change (row_sum bits (a.one i && b.one i) (cross bits a.one b.one r i) i k) (row_sum bits (a.two i && b.two i) (cross bits a.two b.two r' i) i k)
-      (row_sum bits (product_change a b i i) (cross_change a b mask i) i k) (row-xor n a b r r' mask agree.fresh i k hi hk) none
+      same_under_no_change (row_sum bits (a.one i && b.one i) (cross bits a.one b.one r i) i k)
+      (row_sum bits (a.two i && b.two i) (cross bits a.two b.two r' i) i k) (row_sum bits (product_change a b i i) (cross_change a b mask i) i k) (row-xor n a b r r' mask agree.fresh i k hi hk) none
 
   -- .. as a touched row doesn't ..
   touched_row : (i k : ℕ) → i < n → k < n → T i ≡ true → row_sum bits (product_change a b i i) (cross_change a b mask i) i k ≡ false
@@ -195,7 +206,8 @@ module _ (n : ℕ) (Q : List Wire) (O : ShareSet) (a b : Sides) (r r' : ℕ → 
       go : (p : ℕ) × (partner n Left Q T O i ≡ Some p) → row_sum bits (product_change a b i i) (cross_change a b mask i) i (pred n) ≡ false
       go (p, found) =
           let is = partner-Some n Left Q T O i p found in
-          row_sum-same (product_change a b i i) (product_change a b i i) (cross_change a b mask i) (λ j. xor (cross_change a b base i j) (change i && p == j)) i (pred n) refl
+          row_sum-same (product_change a b i i) (product_change a b i i) (cross_change a b mask i)
+          (λ j. xor (cross_change a b base i j) (change i && p == j)) i (pred n) refl
           (λ j le ne. rw (
             cross_change-mask i j,
             flip-to_demanded n Left Q T O change i j demanded,

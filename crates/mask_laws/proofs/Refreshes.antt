@@ -32,7 +32,8 @@ same_kept : (i k : ℕ) (w : Wire) → same_wire (wire_between Fresh i k) w ≡ 
 unfolding kept_from
 same_kept i k (Share a) h = wire_between-is (λ v. same_wire v (Share a) ≡ true → k ≡ 0) Fresh i k (λ e. cc) (λ e. cc) h
 same_kept i k (Product a b) h = wire_between-is (λ v. same_wire v (Product a b) ≡ true → k ≡ 0) Fresh i k (λ e. cc) (λ e. cc) h
-same_kept i k (Fresh a b) h = wire_between-is (λ v. same_wire v (Fresh a b) ≡ true → k ≡ other_end i a b) Fresh i k (other_end-forth i k a b) (other_end-back i k a b) h
+same_kept i k (Fresh a b) h =
+    wire_between-is (λ v. same_wire v (Fresh a b) ≡ true → k ≡ other_end i a b) Fresh i k (other_end-forth i k a b) (other_end-back i k a b) h
 same_kept i k (Left a b) h = wire_between-is (λ v. same_wire v (Left a b) ≡ true → k ≡ 0) Fresh i k (λ e. cc) (λ e. cc) h
 same_kept i k (Right a b) h = wire_between-is (λ v. same_wire v (Right a b) ≡ true → k ≡ 0) Fresh i k (λ e. cc) (λ e. cc) h
 same_kept i k (Partial a b) h = wire_between-is (λ v. same_wire v (Partial a b) ≡ true → k ≡ a) Fresh i k (λ e. cc) (λ e. cc) h
@@ -46,10 +47,12 @@ update_kept i k (Left a b) h = cc
 update_kept i k (Right a b) h = cc
 update_kept i k (Partial a b) h = update_is k (Partial a b) h
 
-refresh_partner : (n : ℕ) (Q : List Wire) (O : ShareSet) (i : ℕ) → FitsGate n Q O → O i ≡ true → (k : ℕ) × (partner n Fresh Q (refresh_need Q) O i ≡ Some k)
+refresh_partner : (n : ℕ) (Q : List Wire) (O : ShareSet) (i : ℕ) → FitsGate n Q O → O i ≡ true →
+    (k : ℕ) × (partner n Fresh Q (refresh_need Q) O i ≡ Some k)
 refresh_partner n Q O i fits demanded =
     has_partner n Fresh Q is_update_of O i (kept_from i)
-    (λ k w h. elim (or_cases (is_update_of k w) (same_wire (wire_between Fresh i k) w) h) [ inl e ↦ update_kept i k w e | inr e ↦ same_kept i k w e ]) fits demanded
+    (λ k w h. elim (or_cases (is_update_of k w) (same_wire (wire_between Fresh i k) w) h) [ inl e ↦ update_kept i k w e | inr e ↦ same_kept i k w e ])
+    fits demanded
 
 -- CHANGES
 
@@ -65,7 +68,8 @@ fresh_between-xor n r r' m differ i j hi hj ne =
 
 -- the sum of a row differs by the sum of what its terms differ by
 row-xor : (n : ℕ) (a : Sides) (r r' m : ℕ → ℕ → Bool) → ((i j : ℕ) → IsPair n i j → r' i j ≡ xor (r i j) (m i j)) → (i k : ℕ) → i < n → k < n →
-    row_sum bits (a.two i) (fresh_between r' i) i k ≡ xor (row_sum bits (a.one i) (fresh_between r i) i k) (row_sum bits (differs a i) (fresh_between m i) i k)
+    row_sum bits (a.two i) (fresh_between r' i) i k
+    ≡ xor (row_sum bits (a.one i) (fresh_between r i) i k) (row_sum bits (differs a i) (fresh_between m i) i k)
 row-xor n a r r' m differ i k hi hk =
     row_sum-same (a.two i) (xor (a.one i) (differs a i)) (fresh_between r' i) (λ j. xor (fresh_between r i j) (fresh_between m i j)) i k
     (xor-change (a.one i) (a.two i)) (λ j le ne. fresh_between-xor n r r' m differ i j hi (omega arith) ne)
@@ -116,7 +120,11 @@ module _ (n : ℕ) (Q : List Wire) (O : ShareSet) (a : Sides) (r r' : ℕ → �
   touched_row : (i k : ℕ) → i < n → T i ≡ true → row_sum bits (differs a i) (fresh_between mask i) i k ≡ false
   touched_row i k hi touched =
       row_sum-none (differs a i) (fresh_between mask i) i k (xor_same (a.one i) (a.two i) (agree.shares i hi touched))
-      (λ j le ne. rw (fresh_between-mask i j, flip-from_touched n Fresh Q T O (differs a) i j touched, flip-to_touched n Fresh Q T O (differs a) i j touched) refl)
+      (λ j le ne. rw (
+        fresh_between-mask i j,
+        flip-from_touched n Fresh Q T O (differs a) i j touched,
+        flip-to_touched n Fresh Q T O (differs a) i j touched,
+      ) refl)
 
   -- .. nor one that is demanded and not touched: what its share changes by, its flip makes up for
   demanded_row : (i : ℕ) → O i ≡ true → T i ≡ false → row_sum bits (differs a i) (fresh_between mask i) i (pred n) ≡ false
@@ -126,8 +134,11 @@ module _ (n : ℕ) (Q : List Wire) (O : ShareSet) (a : Sides) (r r' : ℕ → �
       go (p, found) =
           let is = partner-Some n Fresh Q T O i p found in
           row_sum-same (differs a i) (differs a i) (fresh_between mask i) (λ j. differs a i && p == j) i (pred n) refl
-          (λ j le ne. rw (fresh_between-mask i j, flip-to_demanded n Fresh Q T O (differs a) i j demanded, flip-at_partner n Fresh Q T O (differs a) i j p demanded untouched found)
-          (xor-false (differs a i && p == j)))
+          (λ j le ne. rw (
+            fresh_between-mask i j,
+            flip-to_demanded n Fresh Q T O (differs a) i j demanded,
+            flip-at_partner n Fresh Q T O (differs a) i j p demanded untouched found,
+          ) (xor-false (differs a i && p == j)))
           ∙ row_sum-one_more (differs a i) (differs a i) (λ j. false) p i (pred n) is.apart (let below = is.below in omega arith)
           ∙ ap (λ b. xor b (differs a i)) (row_sum-first (differs a i) (λ j. false) i (pred n) (λ j le ne. refl))
           ∙ xor_self (differs a i)
