@@ -1,5 +1,5 @@
 -- The clash of a circuit: it is unique, and the computed one is it.
-use Rattle.std.proofs.Common.{◌≡◌, ℕ, zero, suc, ◌<◌, ◌≤◌, ◌⊎◌, ◌↔◌, inl, inr, Bool, true, false, ◌&&◌, List, [], ◌∷◌, Some, None, refl, ap, ap₂, sym, ◌∙◌, subst, arith}
+use Rattle.std.proofs.Common.{◌≡◌, ℕ, zero, suc, ◌+◌, ◌<◌, ◌≤◌, ◌⊎◌, ◌↔◌, inl, inr, Bool, true, false, ◌&&◌, List, [], ◌∷◌, length, Some, None, refl, ap, ap₂, sym, ◌∙◌, subst, arith}
 use Rattle.std.specs.declared.option.Option.{Option}
 use Rattle.std.proofs.lemmas.Bool.{cases_lt, cases_order, and_parts, and_from, both_ways}
 use Rattle.std.proofs.lemmas.Option.{none-some, same_Some}
@@ -9,7 +9,8 @@ use Rattle.mask_circuit.specs.Netlist.{Netlist, IsCircuit, AreGates, OperandsBel
 use Rattle.mask_circuit.specs.Acceptance.{gate_at, Reaches, IsShared, IsAccepted, IsClash}
 use Rattle.mask_circuit.specs.Shift.{least}
 use Rattle.mask_laws.specs.Clashes.{Table, reach, shared_source, or_later, clash_from, clash, ClashIsUnique, ClashRefutes, ClashDecides}
-use Rattle.mask_laws.proofs.GateAt.{gate_at_within, gate_at_operands, Make, Make_all, Make_first, Make_rest, Make_none}
+use Rattle.mask_laws.proofs.GateAt.{gate_at_within, gate_at_operands}
+use Rattle.mask_laws.proofs.Confining.{AreGatesAt, AreGatesAt-all}
 use Rattle.mask_laws.proofs.Reaching.{source_low, IsTable, table_is}
 
 pub clash_refutes : ClashRefutes
@@ -114,15 +115,15 @@ clash_step c n None (Some q) here rest = (
   ],
 )
 
-clashes : (c : Netlist) (gs : List Gate) (n : ℕ) (R : Table) → AreGates c.inputs c.gates → IsTable c (value_count c) R → Make c gs n → IsClashFrom c n (clash_from R gs n)
-clashes c [] n R are table make = λ p s le h. none-some _ (sym (Make_none c n make p le) ∙ h.is_product)
-clashes c (g ∷ gs) n R are table make =
-    clash_step c n _ _ (source_is c g n R are table (Make_first c g gs n make))
-    (clashes c gs (suc n) R are table (Make_rest c g gs n make))
+clashes : (c : Netlist) (gs : List Gate) (n : ℕ) (R : Table) → AreGates c.inputs c.gates → IsTable c (value_count c) R → AreGatesAt c gs n →
+    n + length gs ≡ value_count c → IsClashFrom c n (clash_from R gs n)
+clashes c [] n R are table at end = λ p s le h. let within = gate_at_within c p _ h.is_product in omega arith
+clashes c (g ∷ gs) n R are table at end =
+    clash_step c n _ _ (source_is c g n R are table at.0) (clashes c gs (suc n) R are table at.1 (omega arith))
 
 clash_found : (c : Netlist) → IsCircuit c → IsClashFrom c c.inputs (clash c)
 unfolding clash
-clash_found c is = clashes c c.gates c.inputs (reach c) is.gates (table_is c is) (Make_all c)
+clash_found c is = clashes c c.gates c.inputs (reach c) is.gates (table_is c is) (AreGatesAt-all c) refl
 
 -- a product is no input
 shared_within : (c : Netlist) (p s : ℕ) → IsShared c p s → c.inputs ≤ p

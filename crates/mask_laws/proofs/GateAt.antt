@@ -16,25 +16,6 @@ gate_at_gate c k =
     let e : (c.inputs + k) - c.inputs ≡ k = omega arith in
     rw (le-ltb (c.inputs + k) c.inputs (omega arith), e) refl
 
--- the gates gs make the values from n on
-abbrev pub Make : Netlist → List Gate → ℕ → Type 0
-Make c gs n = (k : ℕ) → gate_at c (n + k) ≡ slice_get gs k
-
-pub Make_all : (c : Netlist) → Make c c.gates c.inputs
-Make_all c = gate_at_gate c
-
--- the first gate makes value n ..
-pub Make_first : (c : Netlist) (g : Gate) (gs : List Gate) (n : ℕ) → Make c (g ∷ gs) n → gate_at c n ≡ Some g
-Make_first c g gs n make = let e : n ≡ n + 0 = omega arith in ap (gate_at c) e ∙ make 0
-
--- .. and the others those after it
-pub Make_rest : (c : Netlist) (g : Gate) (gs : List Gate) (n : ℕ) → Make c (g ∷ gs) n → Make c gs (suc n)
-Make_rest c g gs n make k = let e : suc n + k ≡ n + suc k = omega arith in ap (gate_at c) e ∙ make (suc k)
-
--- past the gates there is none
-pub Make_none : (c : Netlist) (n : ℕ) → Make c [] n → (v : ℕ) → n ≤ v → gate_at c v ≡ None
-Make_none c n make v le = let e : v ≡ n + (v - n) = omega arith in ap (gate_at c) e ∙ make (v - n)
-
 -- a value with a gate is no input, and has a number below the count
 pub gate_at_within : (c : Netlist) (v : ℕ) (g : Gate) → gate_at c v ≡ Some g → (c.inputs ≤ v) × (v < value_count c)
 gate_at_within c v g is = go (cases_lt v c.inputs)

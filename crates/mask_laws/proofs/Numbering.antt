@@ -15,7 +15,8 @@ use Rattle.mask_circuit.specs.Acceptance.{gate_at}
 use Rattle.mask_laws.specs.Numbering.{names_by, names_of, wires_before, WiresInOrder, WiresAreCounted, SharesHavePlaces}
 use Rattle.mask_laws.proofs.Names.{gate_names-by_shape}
 use Rattle.mask_laws.proofs.Places.{slice_get-joined}
-use Rattle.mask_laws.proofs.GateAt.{gate_at_input, Make, Make_all, Make_first, Make_rest}
+use Rattle.mask_laws.proofs.GateAt.{gate_at_input}
+use Rattle.mask_laws.proofs.Confining.{AreGatesAt, AreGatesAt-all}
 
 -- LISTS
 
@@ -49,20 +50,20 @@ named c N v = map (λ w. (v, w)) (names_of c N v)
 input_named : (c : Netlist) (N v : ℕ) → v < c.inputs → each (λ i. (v, Share i)) N ≡ named c N v
 input_named c N v lt = sym (ap (λ o. map (λ w. (v, w)) (names_by N o)) (gate_at_input c v lt) ∙ map-each (λ w. (v, w)) Share N)
 
-gates_named : (c : Netlist) (N : ℕ) (gs : List Gate) (n : ℕ) → Make c gs n → joined (named c N) n ++ names_from N gs n ≡ joined (named c N) (n + length gs)
-gates_named c N [] n make = let e : n ≡ n + 0 = omega arith in append-nil _ ∙ ap (joined (named c N)) e
-gates_named c N (g ∷ gs) n make =
+gates_named : (c : Netlist) (N : ℕ) (gs : List Gate) (n : ℕ) → AreGatesAt c gs n → joined (named c N) n ++ names_from N gs n ≡ joined (named c N) (n + length gs)
+gates_named c N [] n at = let e : n ≡ n + 0 = omega arith in append-nil _ ∙ ap (joined (named c N)) e
+gates_named c N (g ∷ gs) n at =
     let e : suc n + length gs ≡ n + suc (length gs) = omega arith in
     sym (append_assoc (joined (named c N) n) (map (λ w. (n, w)) (gate_names N g)) (names_from N gs (suc n)))
-    ∙ ap (λ o. (joined (named c N) n ++ map (λ w. (n, w)) (names_by N o)) ++ names_from N gs (suc n)) (sym (Make_first c g gs n make))
-    ∙ gates_named c N gs (suc n) (Make_rest c g gs n make)
+    ∙ ap (λ o. (joined (named c N) n ++ map (λ w. (n, w)) (names_by N o)) ++ names_from N gs (suc n)) (sym at.0)
+    ∙ gates_named c N gs (suc n) at.1
     ∙ ap (joined (named c N)) e
 
 -- the list of all names is that of each value's names, joined
 pub names_joined : (c : Netlist) (N : ℕ) → names c N ≡ joined (named c N) (value_count c)
 names_joined c N =
     ap (λ xs. xs ++ names_from N c.gates c.inputs) (joined_same _ _ c.inputs (input_named c N))
-    ∙ gates_named c N c.gates c.inputs (Make_all c)
+    ∙ gates_named c N c.gates c.inputs (AreGatesAt-all c)
 
 length-named : (c : Netlist) (N n : ℕ) → length (joined (named c N) n) ≡ wires_before c N n
 length-named c N zero = refl

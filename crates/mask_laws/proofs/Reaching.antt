@@ -7,7 +7,8 @@ use Rattle.mask_circuit.specs.declared.gates.Gate.TheVariants.{Zero, One, Xor, N
 use Rattle.mask_circuit.specs.Netlist.{Netlist, IsCircuit, AreGates, OperandsBelow, value_count}
 use Rattle.mask_circuit.specs.Acceptance.{gate_at, Reaches, Input, ProductHere, RefreshHere, FromLeft, FromRight, FromNegated, Uses}
 use Rattle.mask_laws.specs.Clashes.{Table, gate_reach, reach_from, reach, TidyIsAccepted, TableReaches}
-use Rattle.mask_laws.proofs.GateAt.{gate_at_input, gate_at_within, gate_at_operands, Make, Make_all, Make_first, Make_rest}
+use Rattle.mask_laws.proofs.GateAt.{gate_at_input, gate_at_within, gate_at_operands}
+use Rattle.mask_laws.proofs.Confining.{AreGatesAt, AreGatesAt-all}
 
 -- what reaching s says of the gate g of value n
 abbrev pub Onward : Netlist → ℕ → ℕ → Gate → Type 0
@@ -102,14 +103,14 @@ IsTable_more c n R row table sound complete = record {
     complete_at u s lt (inl e) r = rw (eq-eqb u n e) (complete s (subst (λ (m : ℕ). Reaches c m s) e r))
     complete_at u s lt (inr ne) r = rw (ne_eqb u n ne) (table.complete u s (omega arith) r)
 
-tables : (c : Netlist) (gs : List Gate) (n : ℕ) (R : Table) → Make c gs n → AreGates n gs → IsTable c n R → IsTable c (n + length gs) (reach_from gs n R)
-tables c [] n R make are table = let e : n ≡ n + 0 = omega arith in subst (λ (m : ℕ). IsTable c m R) e table
-tables c (g ∷ gs) n R make are table =
+tables : (c : Netlist) (gs : List Gate) (n : ℕ) (R : Table) → AreGatesAt c gs n → AreGates n gs → IsTable c n R → IsTable c (n + length gs) (reach_from gs n R)
+tables c [] n R at are table = let e : n ≡ n + 0 = omega arith in subst (λ (m : ℕ). IsTable c m R) e table
+tables c (g ∷ gs) n R at are table =
     let e : suc n + length gs ≡ n + suc (length gs) = omega arith in
-    let is = Make_first c g gs n make in
+    let is = at.0 in
     let more = IsTable_more c n R (gate_reach g n R) table (λ s. row_sound c g n s R is table)
     (λ s r. row_complete c g n s R table are.0 (onward c g n s r is)) in
-    subst (λ (m : ℕ). IsTable c m (reach_from (g ∷ gs) n R)) e (tables c gs (suc n) _ (Make_rest c g gs n make) are.1 more)
+    subst (λ (m : ℕ). IsTable c m (reach_from (g ∷ gs) n R)) e (tables c gs (suc n) _ at.1 are.1 more)
 
 start_table : (c : Netlist) → IsTable c c.inputs (λ u s. nat_lt u c.inputs && u == s)
 start_table c = record {
@@ -123,7 +124,7 @@ start_table c = record {
 
 pub table_is : (c : Netlist) → IsCircuit c → IsTable c (value_count c) (reach c)
 unfolding reach
-table_is c is = tables c c.gates c.inputs _ (Make_all c) is.gates (start_table c)
+table_is c is = tables c c.gates c.inputs _ (AreGatesAt-all c) is.gates (start_table c)
 
 pub table_reaches : TableReaches
 table_reaches c is u s =

@@ -2,9 +2,8 @@
 use Rattle.std.proofs.Common.{◌≡◌, ℕ, Bool, true, false, List, [], ◌∷◌, refl, map}
 use Rattle.std.specs.List.{slice_index_or}
 use Rattle.mask_circuit.specs.declared.gates.Gate.TheVariants.{And, Ref}
-use Rattle.mask_circuit.specs.Netlist.{Netlist}
 use Rattle.mask_circuit.specs.Wires.{Shares, each}
-use Rattle.mask_laws.specs.Runs.{Call, Public, Variable, Output, run_wires, run_draws, run_seen, run_hits, run_need}
+use Rattle.mask_laws.specs.Runs.{Call, Variable, Output, run_draws, run_seen, run_hits, run_need}
 
 -- the shares of each variable, from a list of lists
 listed : List (List Bool) → ℕ → Shares Bool
@@ -38,7 +37,7 @@ example_need = refl
 
 -- .. so all tapes show it equally often where that share is the same.
 example_hits : map (λ bss. run_hits example 2 (listed bss) (10 ∷ []) (true ∷ []))
-        (((true ∷ false ∷ []) ∷ (true ∷ true ∷ []) ∷ []) ∷ ((true ∷ true ∷ []) ∷ (false ∷ true ∷ []) ∷ []) ∷ ((true ∷ false ∷ []) ∷ (true ∷ false ∷ []) ∷ []) ∷ [])
+    (((true ∷ false ∷ []) ∷ (true ∷ true ∷ []) ∷ []) ∷ ((true ∷ true ∷ []) ∷ (false ∷ true ∷ []) ∷ []) ∷ ((true ∷ false ∷ []) ∷ (true ∷ false ∷ []) ∷ []) ∷ [])
     ≡ 4 ∷ 4 ∷ 0 ∷ []
 unfolding example refreshed multiplied listed
 example_hits = refl

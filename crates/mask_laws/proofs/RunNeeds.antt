@@ -1,5 +1,5 @@
 -- How much the calls of a run demand.
-use Rattle.std.proofs.Common.{◌≡◌, ℕ, zero, suc, ◌+◌, ◌-◌, ◌<◌, ◌≤◌, ◌⊎◌, inl, inr, Bool, true, false, cond, not, ◌&&◌, ◌||◌, ◌==◌, nat_lt, List, [], ◌∷◌, ◌++◌, map, length, take, All, slice_index_or, refl, ap, ap₂, sym, ◌∙◌, subst, arith}
+use Rattle.std.proofs.Common.{◌≡◌, ℕ, zero, suc, ◌+◌, ◌-◌, ◌<◌, ◌≤◌, ◌⊎◌, inl, inr, Bool, true, false, cond, not, ◌&&◌, ◌||◌, ◌==◌, nat_lt, List, [], ◌∷◌, ◌++◌, map, length, take, All, refl, ap, ap₂, sym, ◌∙◌, subst, arith, append_assoc, append-nil}
 use Rattle.std.specs.List.{filter, list_any}
 use Rattle.std.proofs.lemmas.Bool.{true≢false, or_cases, or_left, or_right, and_parts, and_from, eq-eqb, eqb-true, ltb-true, cases_order}
 use Rattle.std.proofs.lemmas.List.{length-map}
@@ -10,7 +10,7 @@ use Rattle.mask_circuit.specs.Wires.{each}
 use Rattle.mask_circuit.specs.Probing.{size, ShareSets, output_places}
 use Rattle.mask_circuit.specs.Need.{ShareSet, need}
 use Rattle.mask_laws.specs.Strong.{AreAllowed}
-use Rattle.mask_laws.specs.Runs.{Source, Public, Variable, Output, Call, source_at, call_wires, IsPublic, IsStrongCall, AreStrongCalls, places_within, places_behind, same_source, demanded_by, demands_from, StrongRunsBegin}
+use Rattle.mask_laws.specs.Runs.{Source, Public, Variable, Output, Call, source_at, call_wires, IsPublic, IsStrongCall, AreStrongCalls, places_within, places_behind, same_source, demanded_by, demands_from, StrongRunsBegin, StrongRunsGrow}
 use Rattle.mask_laws.proofs.Sets.{size-mono, size-or, size-none}
 use Rattle.mask_laws.proofs.Strengthening.{size_cases, asked_small}
 
@@ -100,17 +100,18 @@ size-demanded_by counts call I s N t is secret small = go (size_cases N (demande
   where
     apart : (u v : ℕ) → u < v → v < call.circuit.inputs → source_at call u ≡ s → source_at call v ≡ s → ⊥
     apart u v lt within one two = secret (subst IsPublic one (is.once u v lt (omega (arith, is.sources)) (one ∙ sym two)))
+
     go : (size N (demanded_by call I s) ≡ 0) ⊎ ((i : ℕ) × (i < N) × (demanded_by call I s i ≡ true)) → size N (demanded_by call I s) ≤ t
     go (inl none) = omega arith
     go (inr some) =
         let v = demanded_by-only call I s some.0 some.2 in
         let bound = small v.0 v.1 in
         let within : size N (demanded_by call I s) ≤ size N (I v.0) = size-mono N (demanded_by call I s) (I v.0) (λ i lt e.
-            let u = demanded_by-only call I s i e in
-            elim (cases_order u.0 v.0) [
-              inl same ↦ ap (λ w. I w i) (sym same) ∙ u.3
-            | inr other ↦ elim other [ inl l ↦ absurd (apart u.0 v.0 l v.1 u.2 v.2) | inr g ↦ absurd (apart v.0 u.0 g u.1 v.2 u.2) ]
-            ]) in
+        let u = demanded_by-only call I s i e in
+        elim (cases_order u.0 v.0) [
+          | inl same ↦ ap (λ w. I w i) (sym same) ∙ u.3
+          | inr other ↦ elim other [ inl l ↦ absurd (apart u.0 v.0 l v.1 u.2 v.2) | inr g ↦ absurd (apart v.0 u.0 g u.1 v.2 u.2) ]
+        ]) in
         omega arith
 
 -- CALLS
@@ -130,9 +131,9 @@ demands_small [] N j P counts s two are secret = let none : size N (λ i. false)
 demands_small (call ∷ calls) N j P counts s two are secret =
     let later = demands_small calls N (suc j) (places_behind (call_wires N call) P) _ s two are.1 secret in
     let own = size-demanded_by counts call (need call.circuit N (call_probes call calls N j P)) s N (length (places_within (call_wires N call) P)) are.0 secret
-        (asked_small call.circuit N (places_within (call_wires N call) P) (asked_of call calls N j P) two are.0.circuit are.0.strong) in
+    (asked_small call.circuit N (places_within (call_wires N call) P) (asked_of call calls N j P) two are.0.circuit are.0.strong) in
     let both = size-or N (demands_from calls N (suc j) (places_behind (call_wires N call) P) s)
-        (demanded_by call (need call.circuit N (call_probes call calls N j P)) s) in
+    (demanded_by call (need call.circuit N (call_probes call calls N j P)) s) in
     let parts = length-places (call_wires N call) P in
     omega arith
 
@@ -149,6 +150,8 @@ call_allowed call calls N j P counts two are few =
           omega arith;
     }
 
+-- STRONG RUNS
+
 begin : (counts : List ℕ) (calls : List Call) (k : ℕ) → AreStrongCalls counts calls → AreStrongCalls counts (take k calls)
 begin counts calls zero are = tt
 begin counts [] (suc k) are = tt
@@ -156,3 +159,16 @@ begin counts (call ∷ calls) (suc k) are = (are.0, begin _ calls k are.1)
 
 pub strong_runs_begin : StrongRunsBegin
 strong_runs_begin calls k are = begin [] calls k are
+
+grow : (counts : List ℕ) (calls more : List Call) → AreStrongCalls counts calls →
+    AreStrongCalls (counts ++ map (λ call. length call.circuit.outputs) calls) more → AreStrongCalls counts (calls ++ more)
+grow counts [] more are later = subst (λ (ns : List ℕ). AreStrongCalls ns more) (append-nil counts) later
+grow counts (call ∷ calls) more are later =
+    let m = length call.circuit.outputs in (
+      are.0,
+      grow (counts ++ m ∷ []) calls more are.1
+          (subst (λ (ns : List ℕ). AreStrongCalls ns more) (sym (append_assoc counts (m ∷ []) (map (λ call. length call.circuit.outputs) calls))) later),
+    )
+
+pub strong_runs_grow : StrongRunsGrow
+strong_runs_grow calls more are later = grow [] calls more are later

@@ -1,19 +1,19 @@
 -- The shift of a run's tape, call by call, and what it keeps.
-use Rattle.std.proofs.Common.{◌≡◌, ℕ, zero, suc, ◌+◌, ◌-◌, ◌<◌, ◌≤◌, ◌⊎◌, inl, inr, Bool, true, false, cond, not, ◌&&◌, ◌||◌, ◌==◌, nat_lt, List, [], ◌∷◌, ◌++◌, map, length, take, drop, All, Contains, sum_by, slice_index, slice_index_or, refl, ap, ap₂, sym, ◌∙◌, subst, arith, length-append, length-drop}
+use Rattle.std.proofs.Common.{◌≡◌, ℕ, suc, ◌+◌, ◌-◌, ◌<◌, ◌≤◌, ◌⊎◌, inl, inr, Bool, true, false, cond, not, ◌==◌, nat_lt, List, [], ◌∷◌, ◌++◌, map, length, take, drop, Contains, slice_index, slice_index_or, refl, ap, ap₂, sym, ◌∙◌, subst, arith, length-drop}
 use Rattle.std.specs.List.{filter, flat_map}
 use Rattle.std.proofs.lemmas.Bool.{true≢false, cases_lt, cases_order, or_left, or_right, eq-eqb, ne_eqb, lt-ltb, le-ltb, cond-true, cond-false}
 use Rattle.std.proofs.lemmas.List.{length-map, length-take-le, get_or_append_left, get_or-append_right, get_or_push, length_push}
 use Rattle.std.proofs.lemmas.List.Elements.{All-get_or, Contains-append_left, Contains-append_right}
 use Rattle.std.proofs.lemmas.List.Sums.{sum_by-cons}
-use Rattle.mask_circuit.specs.Netlist.{Netlist, IsCircuit, AreGates}
+use Rattle.mask_circuit.specs.Netlist.{Netlist}
 use Rattle.mask_circuit.specs.Ring.{bits}
 use Rattle.mask_circuit.specs.Wires.{Share, Shares}
-use Rattle.mask_circuit.specs.Expansion.{Place, shares_of, expand, draws, names, wire_count, wires}
-use Rattle.mask_circuit.specs.Probing.{seen, same_bits, sum_over_tapes, ShareSets, AgreeOn, output_places}
-use Rattle.mask_circuit.specs.Need.{ShareSet, need, probes_at}
+use Rattle.mask_circuit.specs.Expansion.{Place, shares_of, expand, names, wire_count, wires}
+use Rattle.mask_circuit.specs.Probing.{same_bits, sum_over_tapes, AgreeOn, output_places}
+use Rattle.mask_circuit.specs.Need.{need, probes_at}
 use Rattle.mask_circuit.specs.Acceptance.{output_at}
 use Rattle.mask_circuit.specs.Shift.{shift}
-use Rattle.mask_laws.specs.Runs.{Source, Public, Variable, Output, Call, source_at, Outputs, no_outputs, source_shares, input_shares, call_draws, call_wires, Evaluation, evaluation, evaluation_wires, with_outputs, evaluations_from, run_wires, run_draws, run_seen, run_hits, IsRunSimulated, IsPublic, IsThere, IsStrongCall, AreStrongCalls, IsStrongRun, places_within, places_behind, demanded_by, demands_from, run_need, RunNeed}
+use Rattle.mask_laws.specs.Runs.{Source, Public, Variable, Output, Call, source_at, Outputs, no_outputs, source_shares, input_shares, call_draws, call_wires, evaluation, evaluation_wires, with_outputs, evaluations_from, run_wires, run_draws, run_seen, IsThere, IsStrongCall, AreStrongCalls, places_within, places_behind, demands_from, run_need, RunNeed}
 use Rattle.mask_laws.proofs.Members.{none_in_nil, Contains-cons_cases, Contains-first, Contains-later}
 use Rattle.mask_laws.proofs.OutputShares.{Contains-map, output_names, output_names-all}
 use Rattle.mask_laws.proofs.RunNeeds.{asked_of, call_probes, call_allowed, demanded_by-all, demands_small, length-places}
@@ -47,14 +47,14 @@ length-call_shift call calls N j P s s' own = length-shift_from _ N call.circuit
 shift_parts : (call : Call) (calls : List Call) (N j : ℕ) (x y : ℕ → Shares Bool) (a b : Outputs) (P : List ℕ) (own rest : List Bool) → length own ≡ call_draws N call →
     shift_run (call ∷ calls) N j x y a b P (own ++ rest)
     ≡ call_shift call calls N j P (input_shares x a call) (input_shares y b call) own
-        ++ shift_run calls N (suc j) x y (with_outputs N j (evaluation call (input_shares x a call) own) a)
-        (with_outputs N j (evaluation call (input_shares y b call) (call_shift call calls N j P (input_shares x a call) (input_shares y b call) own)) b)
-        (places_behind (call_wires N call) P) rest
+    ++ shift_run calls N (suc j) x y (with_outputs N j (evaluation call (input_shares x a call) own) a)
+    (with_outputs N j (evaluation call (input_shares y b call) (call_shift call calls N j P (input_shares x a call) (input_shares y b call) own)) b)
+    (places_behind (call_wires N call) P) rest
 shift_parts call calls N j x y a b P own rest long =
     ap₂ (λ own rest. call_shift call calls N j P (input_shares x a call) (input_shares y b call) own
-      ++ shift_run calls N (suc j) x y (with_outputs N j (evaluation call (input_shares x a call) own) a)
-      (with_outputs N j (evaluation call (input_shares y b call) (call_shift call calls N j P (input_shares x a call) (input_shares y b call) own)) b)
-      (places_behind (call_wires N call) P) rest)
+    ++ shift_run calls N (suc j) x y (with_outputs N j (evaluation call (input_shares x a call) own) a)
+    (with_outputs N j (evaluation call (input_shares y b call) (call_shift call calls N j P (input_shares x a call) (input_shares y b call) own)) b)
+    (places_behind (call_wires N call) P) rest)
     (take_front (call_draws N call) own rest long) (drop_front (call_draws N call) own rest long)
 
 -- The shift reorders the tapes.
@@ -70,8 +70,8 @@ sum_over_tapes-shift_run (call ∷ calls) N j x y a b P f =
     let shifted = λ (r : List Bool). f (shift_run (call ∷ calls) N j x y a b P r) in
     let rest_of = λ (own : List Bool). sum_over_tapes m (λ rest. f (own ++ rest)) in
     let front : (own : List Bool) → length own ≡ d → sum_over_tapes m (λ rest. shifted (own ++ rest)) ≡ rest_of (new own) = λ own long.
-        sum_over_tapes-same m _ _ (λ rest _. ap f (shift_parts call calls N j x y a b P own rest long))
-        ∙ sum_over_tapes-shift_run calls N (suc j) x y (with_outputs N j (evaluation call s own) a) (with_outputs N j (evaluation call s' (new own)) b) (places_behind (call_wires N call) P) (λ rest. f (new own ++ rest))
+    sum_over_tapes-same m _ _ (λ rest _. ap f (shift_parts call calls N j x y a b P own rest long))
+    ∙ sum_over_tapes-shift_run calls N (suc j) x y (with_outputs N j (evaluation call s own) a) (with_outputs N j (evaluation call s' (new own)) b) (places_behind (call_wires N call) P) (λ rest. f (new own ++ rest))
     in
     ap (λ n. sum_over_tapes n shifted) (sum_by-cons (call_draws N) call calls)
     ∙ sum_over_tapes-add d m shifted
@@ -124,10 +124,10 @@ wires_kept call calls N j P counts s s' own two are few agree long p h lt =
     let allowed = call_allowed call calls N j P _ two are.1 few in
     let Q = call_probes call calls N j P in
     let here : Contains Q p = Contains-append_left (places_within (call_wires N call) P) (output_places c N (asked_of call calls N j P)) p
-        (Contains-filter (λ q. nat_lt q (call_wires N call)) P p h (lt-ltb p (call_wires N call) lt)) in
+    (Contains-filter (λ q. nat_lt q (call_wires N call)) P p h (lt-ltb p (call_wires N call) lt)) in
     same_at (λ q. slice_index_or (wires bits c N s own) q false) (λ q. slice_index_or (wires bits c N s' (call_shift call calls N j P s s' own)) q false) Q p
     (sym (shift_keeps gate_keeps c N s s' Q own two are.0.circuit.gates (asked_within c N (places_within (call_wires N call) P) (asked_of call calls N j P) two are.0.circuit allowed)
-      (asked_fits c N (places_within (call_wires N call) P) (asked_of call calls N j P) two are.0.circuit are.0.strong allowed) agree long).0) here
+    (asked_fits c N (places_within (call_wires N call) P) (asked_of call calls N j P) two are.0.circuit are.0.strong allowed) agree long).0) here
 
 -- .. and so do the shares of its outputs that are asked for
 outputs_kept : (call : Call) (calls : List Call) (N j : ℕ) (P counts : List ℕ) (s s' : ℕ → Shares Bool) (own : List Bool) → 2 ≤ N → AreStrongCalls counts (call ∷ calls) → length P < N →
@@ -143,12 +143,12 @@ outputs_kept call calls N j P counts s s' own two are few agree long k i lt belo
     let Q = call_probes call calls N j P in
     let zero_k : 0 + k ≡ k = omega arith in
     let here : Contains (probes_at c N Q) (output_at c k, Share i) =
-        subst (λ (S : List Place). Contains S (output_at c k, Share i)) (sym (asked_names c N within O two are.0.circuit))
-        (Contains-append_right (probes_at c N within) (output_names N O c.outputs 0) (output_at c k, Share i)
-          (output_names-all N O c.outputs 0 k i lt below (ap (λ z. O z i) zero_k ∙ asked))) in
+    subst (λ (S : List Place). Contains S (output_at c k, Share i)) (sym (asked_names c N within O two are.0.circuit))
+    (Contains-append_right (probes_at c N within) (output_names N O c.outputs 0) (output_at c k, Share i)
+    (output_names-all N O c.outputs 0 k i lt below (ap (λ z. O z i) zero_k ∙ asked))) in
     let demanded = need_from-probed (probes_at c N Q) c.gates c.inputs (output_at c k) i (probed_shares-from_Contains (probes_at c N Q) (output_at c k) i here) in
     sym ((shift_keeps gate_keeps c N s s' Q own two are.0.circuit.gates (asked_within c N within O two are.0.circuit allowed)
-      (asked_fits c N within O two are.0.circuit are.0.strong allowed) agree long).1 (output_at c k) i (are.0.circuit.outputs k 0 lt) below demanded)
+    (asked_fits c N within O two are.0.circuit are.0.strong allowed) agree long).1 (output_at c k) i (are.0.circuit.outputs k 0 lt) below demanded)
 
 with_new : (N j : ℕ) (call : Call) (s : ℕ → Shares Bool) (own : List Bool) (a : Outputs) (l k i : ℕ) → l ≡ j →
     with_outputs N j (evaluation call s own) a l k i ≡ shares_of (expand bits call.circuit N s own) (output_at call.circuit k) i
@@ -168,10 +168,13 @@ later_agree call calls N j P counts x y a b own two are few number agree long = 
   where
     s : ℕ → Shares Bool
     s = input_shares x a call
+
     s' : ℕ → Shares Bool
     s' = input_shares y b call
+
     earlier : (t : Source) → IsThere counts t → (i : ℕ) → i < N → demands_from calls N (suc j) (places_behind (call_wires N call) P) t i ≡ true → source_shares x a t i ≡ source_shares y b t i
     earlier t there i lt e = agree t there i lt (or_left (demands_from calls N (suc j) (places_behind (call_wires N call) P) t i) _ e)
+
     go : (t : Source) → IsThere (counts ++ length call.circuit.outputs ∷ []) t → (i : ℕ) → i < N → demands_from calls N (suc j) (places_behind (call_wires N call) P) t i ≡ true →
         source_shares x (with_outputs N j (evaluation call s own) a) t i ≡ source_shares y (with_outputs N j (evaluation call s' (call_shift call calls N j P s s' own)) b) t i
     go (Public bit) there i lt e = refl
@@ -180,12 +183,13 @@ later_agree call calls N j P counts x y a b own two are few number agree long = 
       where
         m : ℕ
         m = length call.circuit.outputs
+
         at : (l ≡ j) ⊎ ((l < j) ⊎ (j < l)) → with_outputs N j (evaluation call s own) a l k i ≡ with_outputs N j (evaluation call s' (call_shift call calls N j P s s' own)) b l k i
         at (inl same) =
             let last : slice_index (counts ++ m ∷ []) l ≡ m = get_or_push counts m 0 l (number ∙ sym same) in
             with_new N j call s own a l k i same
             ∙ outputs_kept call calls N j P counts s s' own two are few (inputs_agree call calls N j P counts x y a b are.0 agree) long k i
-              (omega (arith, there.1)) lt (subst (λ (z : ℕ). demands_from calls N (suc j) (places_behind (call_wires N call) P) (Output z k) i ≡ true) same e)
+            (omega (arith, there.1)) lt (subst (λ (z : ℕ). demands_from calls N (suc j) (places_behind (call_wires N call) P) (Output z k) i ≡ true) same e)
             ∙ sym (with_new N j call s' (call_shift call calls N j P s s' own) b l k i same)
         at (inr (inl before)) =
             let old : slice_index (counts ++ m ∷ []) l ≡ slice_index counts l = get_or_append_left counts (m ∷ []) 0 l (omega arith) in
@@ -214,9 +218,9 @@ same_parts : (xs xs' ys ys' : List Bool) (n p : ℕ) → length xs ≡ n → len
     (p < n → slice_index_or xs p false ≡ slice_index_or xs' p false) → (n ≤ p → slice_index_or ys (p - n) false ≡ slice_index_or ys' (p - n) false) →
     slice_index_or (xs ++ ys) p false ≡ slice_index_or (xs' ++ ys') p false
 same_parts xs xs' ys ys' n p size size' front back = elim (cases_lt p n) [
-    inl lt ↦ get_or_append_left xs ys false p (omega arith) ∙ front lt ∙ sym (get_or_append_left xs' ys' false p (omega arith))
+  | inl lt ↦ get_or_append_left xs ys false p (omega arith) ∙ front lt ∙ sym (get_or_append_left xs' ys' false p (omega arith))
   | inr le ↦ get_or-append_right xs ys n p false size le ∙ back le ∙ sym (get_or-append_right xs' ys' n p false size' le)
-  ]
+]
 
 place_behind : (n : ℕ) (P : List ℕ) (p : ℕ) → Contains P p → n ≤ p → Contains (places_behind n P) (p - n)
 place_behind n P p h le = Contains-map (λ q. q - n) (filter (λ q. not (nat_lt q n)) P) p
@@ -242,7 +246,7 @@ shift_run-keeps (call ∷ calls) N j P counts x y a b r two are few number agree
     same_parts (wires bits call.circuit N s own) (wires bits call.circuit N s' new) _ _ w p (length-wires call.circuit N s own) (length-wires call.circuit N s' new)
     (λ lt. wires_kept call calls N j P counts s s' own two are few (inputs_agree call calls N j P counts x y a b are.0 agree) own_long p h lt)
     (λ le. shift_run-keeps calls N (suc j) (places_behind w P) _ x y _ _ (drop d r) two are.1 (omega arith) (length_push counts (length call.circuit.outputs) ∙ omega arith)
-      (later_agree call calls N j P counts x y a b own two are few number agree own_long) rest_long (p - w) (place_behind w P p h le))
+    (later_agree call calls N j P counts x y a b own two are few number agree own_long) rest_long (p - w) (place_behind w P p h le))
     ∙ ap (λ ws. slice_index_or ws p false) (sym (wires_parts call calls N j y b new _ new_long))
 
 map_agree : {A B : Type 0} (f g : A → B) (xs : List A) → ((x : A) → Contains xs x → f x ≡ g x) → map f xs ≡ map g xs
@@ -262,7 +266,7 @@ run_needs calls N P two are few = (
       let hit = λ (bs : List Bool). cond (same_bits bs v) 1 0 in
       let shifted = λ (r : List Bool). shift_run calls N 0 x y no_outputs no_outputs P r in
       sum_over_tapes-same (run_draws calls N) _ _ (λ r long. ap hit
-        (map_agree (λ p. slice_index_or (run_wires calls N x r) p false) (λ p. slice_index_or (run_wires calls N y (shifted r)) p false) P
-          (λ p h. shift_run-keeps calls N 0 P [] x y no_outputs no_outputs r two are few refl (start_agree calls N P x y agree) long p h)))
+      (map_agree (λ p. slice_index_or (run_wires calls N x r) p false) (λ p. slice_index_or (run_wires calls N y (shifted r)) p false) P
+      (λ p h. shift_run-keeps calls N 0 P [] x y no_outputs no_outputs r two are few refl (start_agree calls N P x y agree) long p h)))
       ∙ sum_over_tapes-shift_run calls N 0 x y no_outputs no_outputs P (λ r. hit (run_seen calls N y r P)),
 )

@@ -1,6 +1,6 @@
 -- A whole run: calls in order, of which each takes public bits, variables and outputs of earlier calls, and what an
 -- observer sees of the wires of all calls together.
-use Rattle.std.specs.Prelude.{◌≡◌, ℕ, suc, ◌+◌, ◌-◌, ◌<◌, ◌≤◌, Bool, true, false, cond, not, ◌&&◌, ◌||◌, ◌==◌, nat_lt, List, [], ◌∷◌, ◌++◌, map, length, take, drop, All, sum_by, slice_index, slice_index_or}
+use Rattle.std.specs.Prelude.{◌≡◌, ℕ, suc, ◌-◌, ◌<◌, ◌≤◌, Bool, true, false, cond, not, ◌&&◌, ◌||◌, ◌==◌, nat_lt, List, [], ◌∷◌, ◌++◌, map, length, take, drop, All, sum_by, slice_index, slice_index_or}
 use Rattle.std.specs.List.{filter, flat_map, list_any}
 use Rattle.mask_circuit.specs.Netlist.{Netlist, IsCircuit}
 use Rattle.mask_circuit.specs.Value.{xor}
@@ -174,6 +174,11 @@ abbrev pub RunNeed : Type 0
 RunNeed = (calls : List Call) (N : ℕ) (P : List ℕ) → 2 ≤ N → IsStrongRun calls → length P < N →
     ((v : ℕ) → size N (run_need calls N P v) ≤ length P) × IsRunSimulated calls N P (run_need calls N P)
 
--- The first calls of a strong run are one.
+-- The first calls of a strong run are one ..
 abbrev pub StrongRunsBegin : Type 0
 StrongRunsBegin = (calls : List Call) (k : ℕ) → IsStrongRun calls → IsStrongRun (take k calls)
+
+-- .. and strong calls after it make it a longer one.
+abbrev pub StrongRunsGrow : Type 0
+StrongRunsGrow = (calls more : List Call) → IsStrongRun calls → AreStrongCalls (map (λ call. length call.circuit.outputs) calls) more →
+    IsStrongRun (calls ++ more)
