@@ -10,9 +10,9 @@ use Rattle.mask_circuit.specs.Wires.{each}
 use Rattle.mask_circuit.specs.Probing.{size, ShareSets, output_places}
 use Rattle.mask_circuit.specs.Need.{ShareSet, need}
 use Rattle.mask_laws.specs.Strong.{AreAllowed}
-use Rattle.mask_laws.specs.Runs.{Source, Public, Variable, Output, Call, source_at, call_wires, IsPublic, IsStrongCall, AreStrongCalls, places_within, places_behind, same_source, demanded_by, demands_from, StrongRunsBegin, StrongRunsGrow}
+use Rattle.mask_laws.specs.Runs.{Source, Public, Variable, Output, Call, source_at, call_wires, IsPublic, IsStrongCall, AreStrongCalls, places_within, places_behind, same_source, demanded_by, demanded, StrongRunsBegin, StrongRunsGrow}
 use Rattle.mask_laws.proofs.Sets.{size-mono, size-or, size-none}
-use Rattle.mask_laws.proofs.Strengthening.{size_cases, asked_small}
+use Rattle.mask_laws.proofs.Strengthening.{size_cases, need_small}
 
 -- PLACES
 
@@ -118,35 +118,33 @@ size-demanded_by counts call I s N t is secret small = go (size_cases N (demande
 
 -- the shares of its outputs that are demanded of call number j by those after it
 abbrev pub asked_of : Call → List Call → ℕ → ℕ → List ℕ → ℕ → ShareSet
-asked_of call calls N j P k = demands_from calls N (suc j) (places_behind (call_wires N call) P) (Output j k)
+asked_of call calls N j P k = demanded calls N (places_behind (call_wires N call) P) (Output j k)
 
 -- the probes on its own wires, and these shares
 abbrev pub call_probes : Call → List Call → ℕ → ℕ → List ℕ → List ℕ
 call_probes call calls N j P = places_within (call_wires N call) P ++ output_places call.circuit N (asked_of call calls N j P)
 
 -- No source that isn't public has more demanded shares than there are probes.
-pub demands_small : (calls : List Call) (N j : ℕ) (P counts : List ℕ) (s : Source) → 2 ≤ N → AreStrongCalls counts calls → (IsPublic s → ⊥) →
-    size N (demands_from calls N j P s) ≤ length P
-demands_small [] N j P counts s two are secret = let none : size N (λ i. false) ≡ 0 = size-none N (λ i. false) (λ i lt. refl) in omega arith
-demands_small (call ∷ calls) N j P counts s two are secret =
-    let later = demands_small calls N (suc j) (places_behind (call_wires N call) P) _ s two are.1 secret in
-    let own = size-demanded_by counts call (need call.circuit N (call_probes call calls N j P)) s N (length (places_within (call_wires N call) P)) are.0 secret
-    (asked_small call.circuit N (places_within (call_wires N call) P) (asked_of call calls N j P) two are.0.circuit are.0.strong) in
-    let both = size-or N (demands_from calls N (suc j) (places_behind (call_wires N call) P) s)
-    (demanded_by call (need call.circuit N (call_probes call calls N j P)) s) in
+pub demanded_small : (calls : List Call) (N : ℕ) (P counts : List ℕ) (s : Source) → AreStrongCalls counts calls → (IsPublic s → ⊥) → size N (demanded calls N P s) ≤ length P
+demanded_small [] N P counts s are secret = let none : size N (λ i. false) ≡ 0 = size-none N (λ i. false) (λ i lt. refl) in omega arith
+demanded_small (call ∷ calls) N P counts s are secret =
+    let own = size-demanded_by counts call (need call.circuit N (places_within (call_wires N call) P)) s N (length (places_within (call_wires N call) P)) are.0 secret
+    (need_small call.circuit N (places_within (call_wires N call) P) are.0.circuit are.0.strong) in
+    let later = demanded_small calls N (places_behind (call_wires N call) P) _ s are.1 secret in
+    let both = size-or N (demanded_by call (need call.circuit N (places_within (call_wires N call) P)) s) (demanded calls N (places_behind (call_wires N call) P) s) in
     let parts = length-places (call_wires N call) P in
     omega arith
 
 -- so the probes of a call and what is asked of it are few enough
-pub call_allowed : (call : Call) (calls : List Call) (N j : ℕ) (P counts : List ℕ) → 2 ≤ N → AreStrongCalls counts calls → length P < N →
+pub call_allowed : (call : Call) (calls : List Call) (N j : ℕ) (P counts : List ℕ) → AreStrongCalls counts calls → length P < N →
     AreAllowed call.circuit N (places_within (call_wires N call) P) (asked_of call calls N j P)
-call_allowed call calls N j P counts two are few =
+call_allowed call calls N j P counts are few =
     let parts = length-places (call_wires N call) P in
     record {
       wires = places_within-below (call_wires N call) P;
       few = omega arith;
       fewer = λ k lt.
-          let small = demands_small calls N (suc j) (places_behind (call_wires N call) P) counts (Output j k) two are (λ e. e) in
+          let small = demanded_small calls N (places_behind (call_wires N call) P) counts (Output j k) are (λ e. e) in
           omega arith;
     }
 

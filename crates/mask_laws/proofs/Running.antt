@@ -13,15 +13,15 @@ use Rattle.mask_circuit.specs.Probing.{same_bits, sum_over_tapes, AgreeOn, outpu
 use Rattle.mask_circuit.specs.Need.{need, probes_at}
 use Rattle.mask_circuit.specs.Acceptance.{output_at}
 use Rattle.mask_circuit.specs.Shift.{shift}
-use Rattle.mask_laws.specs.Runs.{Source, Public, Variable, Output, Call, source_at, Outputs, no_outputs, source_shares, input_shares, call_draws, call_wires, evaluation, evaluation_wires, with_outputs, evaluations_from, run_wires, run_draws, run_seen, IsThere, IsStrongCall, AreStrongCalls, places_within, places_behind, demands_from, run_need, RunNeed}
+use Rattle.mask_laws.specs.Runs.{Source, Public, Variable, Output, Call, source_at, Outputs, no_outputs, source_shares, input_shares, call_draws, call_wires, evaluation, evaluation_wires, with_outputs, evaluations_from, run_wires, run_draws, run_seen, IsThere, IsStrongCall, AreStrongCalls, places_within, places_behind, demanded, demanded_by, run_need, RunNeed}
 use Rattle.mask_laws.proofs.Members.{none_in_nil, Contains-cons_cases, Contains-first, Contains-later}
 use Rattle.mask_laws.proofs.OutputShares.{Contains-map, output_names, output_names-all}
-use Rattle.mask_laws.proofs.RunNeeds.{asked_of, call_probes, call_allowed, demanded_by-all, demands_small, length-places}
+use Rattle.mask_laws.proofs.RunNeeds.{asked_of, call_probes, call_allowed, demanded_by-all, demanded_small, length-places}
 use Rattle.mask_laws.proofs.Gates.{gate_keeps}
 use Rattle.mask_laws.proofs.Probes.{probed_shares-from_Contains, need_from-probed}
 use Rattle.mask_laws.proofs.Seen.{shift_keeps, shift_reorders}
 use Rattle.mask_laws.proofs.Shifts.{take_front, drop_front, length-shift_from}
-use Rattle.mask_laws.proofs.Strengthening.{asked_names, asked_within, asked_fits}
+use Rattle.mask_laws.proofs.Strengthening.{need_with_outputs, asked_names, asked_within, asked_fits}
 use Rattle.mask_laws.proofs.Tapes.{sum_over_tapes-same, sum_over_tapes-add}
 
 -- THE SHIFT
@@ -83,15 +83,18 @@ sum_over_tapes-shift_run (call ∷ calls) N j x y a b P f =
 -- WHAT IT KEEPS
 
 -- both sides have the same shares where these calls demand them
-abbrev pub SidesAgree : List Call → ℕ → ℕ → List ℕ → List ℕ → (ℕ → Shares Bool) → (ℕ → Shares Bool) → Outputs → Outputs → Type 0
-SidesAgree calls N j P counts x y a b = (s : Source) → IsThere counts s → (i : ℕ) → i < N → demands_from calls N j P s i ≡ true → source_shares x a s i ≡ source_shares y b s i
+abbrev pub SidesAgree : List Call → ℕ → List ℕ → List ℕ → (ℕ → Shares Bool) → (ℕ → Shares Bool) → Outputs → Outputs → Type 0
+SidesAgree calls N P counts x y a b = (s : Source) → IsThere counts s → (i : ℕ) → i < N → demanded calls N P s i ≡ true → source_shares x a s i ≡ source_shares y b s i
 
 -- so has the need of a call the same input shares
-inputs_agree : (call : Call) (calls : List Call) (N j : ℕ) (P counts : List ℕ) (x y : ℕ → Shares Bool) (a b : Outputs) → IsStrongCall counts call →
-    SidesAgree (call ∷ calls) N j P counts x y a b → AgreeOn call.circuit N (need call.circuit N (call_probes call calls N j P)) (input_shares x a call) (input_shares y b call)
-inputs_agree call calls N j P counts x y a b is agree v i within lt needed =
+inputs_agree : (call : Call) (calls : List Call) (N j : ℕ) (P counts : List ℕ) (x y : ℕ → Shares Bool) (a b : Outputs) → 2 ≤ N → IsStrongCall counts call →
+    SidesAgree (call ∷ calls) N P counts x y a b → AgreeOn call.circuit N (need call.circuit N (call_probes call calls N j P)) (input_shares x a call) (input_shares y b call)
+inputs_agree call calls N j P counts x y a b two is agree v i within lt needed =
+    let own = need call.circuit N (places_within (call_wires N call) P) in
     agree (source_at call v) (All-get_or (IsThere counts) call.sources v (Public false) (omega (arith, is.sources)) is.there) i lt
-    (or_right (demands_from calls N (suc j) (places_behind (call_wires N call) P) (source_at call v) i) _ (demanded_by-all call (need call.circuit N (call_probes call calls N j P)) v i within needed))
+    (or_left (demanded_by call own (source_at call v) i) (demanded calls N (places_behind (call_wires N call) P) (source_at call v) i)
+    (demanded_by-all call own v i within
+    (sym (need_with_outputs call.circuit N (places_within (call_wires N call) P) (asked_of call calls N j P) two is.circuit is.strong v i within) ∙ needed)))
 
 same_cons : {A : Type 0} (a b : A) (xs ys : List A) → a ∷ xs ≡ b ∷ ys → (a ≡ b) × (xs ≡ ys)
 same_cons a b xs ys e = (cc, cc)
@@ -121,7 +124,7 @@ wires_kept : (call : Call) (calls : List Call) (N j : ℕ) (P counts : List ℕ)
     slice_index_or (wires bits call.circuit N s own) p false ≡ slice_index_or (wires bits call.circuit N s' (call_shift call calls N j P s s' own)) p false
 wires_kept call calls N j P counts s s' own two are few agree long p h lt =
     let c = call.circuit in
-    let allowed = call_allowed call calls N j P _ two are.1 few in
+    let allowed = call_allowed call calls N j P _ are.1 few in
     let Q = call_probes call calls N j P in
     let here : Contains Q p = Contains-append_left (places_within (call_wires N call) P) (output_places c N (asked_of call calls N j P)) p
     (Contains-filter (λ q. nat_lt q (call_wires N call)) P p h (lt-ltb p (call_wires N call) lt)) in
@@ -139,7 +142,7 @@ outputs_kept call calls N j P counts s s' own two are few agree long k i lt belo
     let c = call.circuit in
     let O = asked_of call calls N j P in
     let within = places_within (call_wires N call) P in
-    let allowed = call_allowed call calls N j P _ two are.1 few in
+    let allowed = call_allowed call calls N j P _ are.1 few in
     let Q = call_probes call calls N j P in
     let zero_k : 0 + k ≡ k = omega arith in
     let here : Contains (probes_at c N Q) (output_at c k, Share i) =
@@ -160,8 +163,8 @@ with_old N j call s own a l k i other = ap (λ (f : Shares Bool). f i) (cond-fal
 
 -- so the sides agree on what later calls demand
 later_agree : (call : Call) (calls : List Call) (N j : ℕ) (P counts : List ℕ) (x y : ℕ → Shares Bool) (a b : Outputs) (own : List Bool) → 2 ≤ N →
-    AreStrongCalls counts (call ∷ calls) → length P < N → length counts ≡ j → SidesAgree (call ∷ calls) N j P counts x y a b → length own ≡ call_draws N call →
-    SidesAgree calls N (suc j) (places_behind (call_wires N call) P) (counts ++ length call.circuit.outputs ∷ []) x y
+    AreStrongCalls counts (call ∷ calls) → length P < N → length counts ≡ j → SidesAgree (call ∷ calls) N P counts x y a b → length own ≡ call_draws N call →
+    SidesAgree calls N (places_behind (call_wires N call) P) (counts ++ length call.circuit.outputs ∷ []) x y
     (with_outputs N j (evaluation call (input_shares x a call) own) a)
     (with_outputs N j (evaluation call (input_shares y b call) (call_shift call calls N j P (input_shares x a call) (input_shares y b call) own)) b)
 later_agree call calls N j P counts x y a b own two are few number agree long = go
@@ -172,10 +175,10 @@ later_agree call calls N j P counts x y a b own two are few number agree long = 
     s' : ℕ → Shares Bool
     s' = input_shares y b call
 
-    earlier : (t : Source) → IsThere counts t → (i : ℕ) → i < N → demands_from calls N (suc j) (places_behind (call_wires N call) P) t i ≡ true → source_shares x a t i ≡ source_shares y b t i
-    earlier t there i lt e = agree t there i lt (or_left (demands_from calls N (suc j) (places_behind (call_wires N call) P) t i) _ e)
+    earlier : (t : Source) → IsThere counts t → (i : ℕ) → i < N → demanded calls N (places_behind (call_wires N call) P) t i ≡ true → source_shares x a t i ≡ source_shares y b t i
+    earlier t there i lt e = agree t there i lt (or_right _ (demanded calls N (places_behind (call_wires N call) P) t i) e)
 
-    go : (t : Source) → IsThere (counts ++ length call.circuit.outputs ∷ []) t → (i : ℕ) → i < N → demands_from calls N (suc j) (places_behind (call_wires N call) P) t i ≡ true →
+    go : (t : Source) → IsThere (counts ++ length call.circuit.outputs ∷ []) t → (i : ℕ) → i < N → demanded calls N (places_behind (call_wires N call) P) t i ≡ true →
         source_shares x (with_outputs N j (evaluation call s own) a) t i ≡ source_shares y (with_outputs N j (evaluation call s' (call_shift call calls N j P s s' own)) b) t i
     go (Public bit) there i lt e = refl
     go (Variable v) there i lt e = earlier (Variable v) tt i lt e
@@ -188,8 +191,8 @@ later_agree call calls N j P counts x y a b own two are few number agree long = 
         at (inl same) =
             let last : slice_index (counts ++ m ∷ []) l ≡ m = get_or_push counts m 0 l (number ∙ sym same) in
             with_new N j call s own a l k i same
-            ∙ outputs_kept call calls N j P counts s s' own two are few (inputs_agree call calls N j P counts x y a b are.0 agree) long k i
-            (omega (arith, there.1)) lt (subst (λ (z : ℕ). demands_from calls N (suc j) (places_behind (call_wires N call) P) (Output z k) i ≡ true) same e)
+            ∙ outputs_kept call calls N j P counts s s' own two are few (inputs_agree call calls N j P counts x y a b two are.0 agree) long k i
+            (omega (arith, there.1)) lt (subst (λ (z : ℕ). demanded calls N (places_behind (call_wires N call) P) (Output z k) i ≡ true) same e)
             ∙ sym (with_new N j call s' (call_shift call calls N j P s s' own) b l k i same)
         at (inr (inl before)) =
             let old : slice_index (counts ++ m ∷ []) l ≡ slice_index counts l = get_or_append_left counts (m ∷ []) 0 l (omega arith) in
@@ -228,7 +231,7 @@ place_behind n P p h le = Contains-map (λ q. q - n) (filter (λ q. not (nat_lt 
 
 -- Each place shows the same on both sides.
 pub shift_run-keeps : (calls : List Call) (N j : ℕ) (P counts : List ℕ) (x y : ℕ → Shares Bool) (a b : Outputs) (r : List Bool) → 2 ≤ N →
-    AreStrongCalls counts calls → length P < N → length counts ≡ j → SidesAgree calls N j P counts x y a b → length r ≡ run_draws calls N → (p : ℕ) → Contains P p →
+    AreStrongCalls counts calls → length P < N → length counts ≡ j → SidesAgree calls N P counts x y a b → length r ≡ run_draws calls N → (p : ℕ) → Contains P p →
     slice_index_or (wires_from calls N j x a r) p false ≡ slice_index_or (wires_from calls N j y b (shift_run calls N j x y a b P r)) p false
 shift_run-keeps [] N j P counts x y a b r two are few number agree long p h = refl
 shift_run-keeps (call ∷ calls) N j P counts x y a b r two are few number agree long p h =
@@ -244,7 +247,7 @@ shift_run-keeps (call ∷ calls) N j P counts x y a b r two are few number agree
     let new_long : length new ≡ d = length-call_shift call calls N j P s s' own ∙ own_long in
     let parts = length-places w P in
     same_parts (wires bits call.circuit N s own) (wires bits call.circuit N s' new) _ _ w p (length-wires call.circuit N s own) (length-wires call.circuit N s' new)
-    (λ lt. wires_kept call calls N j P counts s s' own two are few (inputs_agree call calls N j P counts x y a b are.0 agree) own_long p h lt)
+    (λ lt. wires_kept call calls N j P counts s s' own two are few (inputs_agree call calls N j P counts x y a b two are.0 agree) own_long p h lt)
     (λ le. shift_run-keeps calls N (suc j) (places_behind w P) _ x y _ _ (drop d r) two are.1 (omega arith) (length_push counts (length call.circuit.outputs) ∙ omega arith)
     (later_agree call calls N j P counts x y a b own two are few number agree own_long) rest_long (p - w) (place_behind w P p h le))
     ∙ ap (λ ws. slice_index_or ws p false) (sym (wires_parts call calls N j y b new _ new_long))
@@ -254,14 +257,14 @@ map_agree f g [] h = refl
 map_agree f g (x ∷ xs) h = ap₂ (λ y ys. y ∷ ys) (h x (Contains-first x xs)) (map_agree f g xs (λ y k. h y (Contains-later x xs y k)))
 
 start_agree : (calls : List Call) (N : ℕ) (P : List ℕ) (x y : ℕ → Shares Bool) → ((v i : ℕ) → i < N → run_need calls N P v i ≡ true → x v i ≡ y v i) →
-    SidesAgree calls N 0 P [] x y no_outputs no_outputs
+    SidesAgree calls N P [] x y no_outputs no_outputs
 start_agree calls N P x y agree (Public bit) there i lt e = refl
 start_agree calls N P x y agree (Variable v) there i lt e = agree v i lt e
 start_agree calls N P x y agree (Output j k) there i lt e = refl
 
 pub run_needs : RunNeed
 run_needs calls N P two are few = (
-  λ v. demands_small calls N 0 P [] (Variable v) two are (λ e. e),
+  λ v. demanded_small calls N P [] (Variable v) are (λ e. e),
   λ x y agree v.
       let hit = λ (bs : List Bool). cond (same_bits bs v) 1 0 in
       let shifted = λ (r : List Bool). shift_run calls N 0 x y no_outputs no_outputs P r in

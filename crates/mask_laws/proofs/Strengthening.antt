@@ -1,6 +1,6 @@
 -- Strong circuits: the shares of outputs that are asked for beside the inner wires fit too, and cost no further need.
 use Rattle.std.proofs.Common.{◌≡◌, ℕ, zero, suc, ◌+◌, ◌<◌, ◌≤◌, ◌⊎◌, inl, inr, Bool, true, false, cond, ◌&&◌, ◌||◌, ◌==◌, List, [], ◌∷◌, ◌++◌, length, slice_index_or, All, Some, refl, ap, ap₂, sym, ◌∙◌, subst, arith, append-nil}
-use Rattle.std.proofs.lemmas.Bool.{cases_order, false_from_ne_true, or_cases}
+use Rattle.std.proofs.lemmas.Bool.{cases_order, false_from_ne_true}
 use Rattle.std.proofs.lemmas.List.{map-append, length-map}
 use Rattle.std.proofs.lemmas.List.Elements.{All-append, All-weaker}
 use Rattle.std.proofs.lemmas.List.Folds.{list_any-append}
@@ -23,6 +23,7 @@ use Rattle.mask_laws.proofs.Fitting.{source_count}
 use Rattle.mask_laws.proofs.GateAt.{gate_at_input}
 use Rattle.mask_laws.proofs.Gates.{gate_keeps}
 use Rattle.mask_laws.proofs.Seen.{fitting_is_simulated}
+use Rattle.mask_laws.proofs.Simulation.{accepted_needs_few}
 use Rattle.mask_laws.proofs.OutputShares.{output_names, output_places-names, output_places-below, output_names-inner, output_names-only}
 
 or-false : (a : Bool) → (a || false) ≡ a
@@ -114,18 +115,13 @@ fits_asked c N P S [] n accepted asked room at are = tt
 fits_asked c N P S (g ∷ gs) n accepted asked room at are =
     (fits_at c N P S g gs n accepted asked room at.0 at.1 are.1, fits_asked c N P S gs (suc n) accepted asked room at.1 are.1)
 
--- and no input has more demanded shares than P has probes
-pub small_asked : (c : Netlist) (N : ℕ) (P S : List Place) → IsAccepted c → AreGates c.inputs c.gates → AreRefreshed c S →
-    (v : ℕ) → v < c.inputs → size N (need_from (P ++ S) c.gates c.inputs v) ≤ length P
-small_asked c N P S accepted are asked v lt =
-    let at = AreGatesAt-all c in
-    let count = source_count c N P accepted c.gates c.inputs at are v (Input lt) in
-    let only : size N (need_from (P ++ S) c.gates c.inputs v) ≤ size N (need_from P c.gates c.inputs v) =
-    size-mono N _ _ (λ i k d. elim (or_cases (need_from P c.gates c.inputs v i) (probed_shares S v i) (sym (need_asked c P S c.gates c.inputs v i asked at) ∙ d)) [
-      | inl own ↦ own
-      | inr asks ↦ absurd (none-some (Ref (asked.refreshed v i asks).0) (sym (gate_at_input c v lt) ∙ (asked.refreshed v i asks).1))
-    ]) in
-    omega arith
+-- and of the inputs nothing further is demanded
+pub inputs_asked : (c : Netlist) (P S : List Place) (v i : ℕ) → AreRefreshed c S → v < c.inputs → need_from (P ++ S) c.gates c.inputs v i ≡ need_from P c.gates c.inputs v i
+inputs_asked c P S v i asked lt =
+    need_asked c P S c.gates c.inputs v i asked (AreGatesAt-all c)
+    ∙ ap (λ b. need_from P c.gates c.inputs v i || b) (false_from_ne_true (probed_shares S v i)
+    (λ asks. let r = asked.refreshed v i asks in none-some (Ref r.0) (sym (gate_at_input c v lt) ∙ r.1)))
+    ∙ or-false (need_from P c.gates c.inputs v i)
 
 -- STRONG CIRCUITS
 
@@ -184,19 +180,23 @@ asked_fits c N P O two is strong allowed =
     (outputs_room c N (probes_at c N P) O strong.1 (omega (arith, allowed.few)) (λ k lt. omega (arith, allowed.fewer k lt)))
     (AreGatesAt-all c) is.gates)
 
--- and need no more shares of each input than there are probes
-pub asked_small : (c : Netlist) (N : ℕ) (P : List ℕ) (O : ℕ → ℕ → Bool) → 2 ≤ N → IsCircuit c → IsStrong c → HasAtMost c N (need c N (P ++ output_places c N O)) (length P)
-asked_small c N P O two is strong v lt =
-    let size_is : length (probes_at c N P) ≡ length P = length-map P (λ p. slice_index_or (names c N) p (0, Share 0)) in
-    let small = small_asked c N (probes_at c N P) (output_names N O c.outputs 0) strong.0 is.gates (outputs_refreshed c N O strong.1) v lt in
-    let same : size N (need c N (P ++ output_places c N O) v) ≡ size N (need_from (probes_at c N P ++ output_names N O c.outputs 0) c.gates c.inputs v) =
-    ap (λ S. size N (need_from S c.gates c.inputs v)) (asked_names c N P O two is) in
-    omega arith
+-- and need no more of the inputs than the probes alone
+pub need_with_outputs : (c : Netlist) (N : ℕ) (P : List ℕ) (O : ℕ → ℕ → Bool) → 2 ≤ N → IsCircuit c → IsStrong c → (v i : ℕ) → v < c.inputs →
+    need c N (P ++ output_places c N O) v i ≡ need c N P v i
+need_with_outputs c N P O two is strong v i lt =
+    ap (λ S. need_from S c.gates c.inputs v i) (asked_names c N P O two is)
+    ∙ inputs_asked c (probes_at c N P) (output_names N O c.outputs 0) v i (outputs_refreshed c N O strong.1) lt
+
+-- the need of few wires has few shares of each input
+pub need_small : (c : Netlist) (N : ℕ) (P : List ℕ) → IsCircuit c → IsStrong c → HasAtMost c N (need c N P) (length P)
+need_small c N P is strong v lt = let few = accepted_needs_few c N P is.gates strong.0 v (Input lt) in omega arith
 
 pub strong_need : StrongNeed
 strong_need c N P O two is strong allowed = (
-  asked_small c N P O two is strong,
-  fitting_is_simulated gate_keeps c N (P ++ output_places c N O) two is.gates (asked_within c N P O two is allowed) (asked_fits c N P O two is strong allowed),
+  need_small c N P is strong,
+  λ x y agree. fitting_is_simulated gate_keeps c N (P ++ output_places c N O) two is.gates
+      (asked_within c N P O two is allowed) (asked_fits c N P O two is strong allowed) x y
+      (λ v i within lt needed. agree v i within lt (sym (need_with_outputs c N P O two is strong v i within) ∙ needed)),
 )
 
 -- So a strong circuit is strongly non-interfering.
@@ -207,4 +207,4 @@ strong_is_sni c N two is strong P O inner few room =
       few = few;
       fewer = room;
     }) in
-    (need c N (P ++ output_places c N O), all.0, all.1)
+    (need c N P, all.0, all.1)

@@ -7,7 +7,7 @@ use Rattle.mask_circuit.specs.Value.{xor}
 use Rattle.mask_circuit.specs.Ring.{bits}
 use Rattle.mask_circuit.specs.Wires.{Shares, each, on_first}
 use Rattle.mask_circuit.specs.Expansion.{shares_of, expand, draws, wire_count, wires}
-use Rattle.mask_circuit.specs.Probing.{same_bits, sum_over_tapes, ShareSets, size, output_places}
+use Rattle.mask_circuit.specs.Probing.{same_bits, sum_over_tapes, ShareSets, size}
 use Rattle.mask_circuit.specs.Need.{ShareSet, need}
 use Rattle.mask_circuit.specs.Acceptance.{IsStrong, output_at}
 
@@ -152,22 +152,21 @@ same_source (Public _) _ = false
 same_source (Variable _) _ = false
 same_source (Output _ _) _ = false
 
--- the shares that are demanded of a source by a call, where I has the need of its inputs
+-- the shares that a call demands of a source, where I has the need of its inputs
 abbrev pub demanded_by : Call → ShareSets → Source → ShareSet
 demanded_by call I s i = list_any (λ v. same_source (source_at call v) s && I v i) (each (λ v. v) call.circuit.inputs)
 
--- The shares that are demanded of each source, from the last of these calls back to the first: a call needs what its
--- probes need together with the shares of its outputs that later calls demand. The first is number j.
-abbrev pub demands_from : List Call → ℕ → ℕ → List ℕ → Source → ShareSet
-demands_from [] N j P s i = false
-demands_from (call ∷ calls) N j P s i =
-    let later = demands_from calls N (suc j) (places_behind (call_wires N call) P) in
-    let probes = places_within (call_wires N call) P ++ output_places call.circuit N (λ k. later (Output j k)) in
-    later s i || demanded_by call (need call.circuit N probes) s i
+-- The shares of each source that the probes of these calls need, each those on its own wires. What later calls demand of
+-- an output adds nothing, since the output is a refresh.
+abbrev pub demanded : List Call → ℕ → List ℕ → Source → ShareSet
+demanded [] N P s i = false
+demanded (call ∷ calls) N P s i =
+    demanded_by call (need call.circuit N (places_within (call_wires N call) P)) s i
+    || demanded calls N (places_behind (call_wires N call) P) s i
 
--- for each variable the shares that are demanded in the end
+-- for each variable the shares that are needed
 abbrev pub run_need : List Call → ℕ → List ℕ → ShareSets
-run_need calls N P v = demands_from calls N 0 P (Variable v)
+run_need calls N P v = demanded calls N P (Variable v)
 
 -- In a run of strong calls any t wires, t at most N - 1, need at most t shares of each variable, and these suffice.
 abbrev pub RunNeed : Type 0

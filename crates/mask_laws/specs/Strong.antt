@@ -12,12 +12,11 @@ pub record AreAllowed (c : Netlist) (N : ℕ) (P : List ℕ) (O : ℕ → ℕ �
   pub few : length P < N
   pub fewer : (k : ℕ) → k < length c.outputs → length P + size N (O k) < N
 
--- A strong circuit needs, for t wires and shares of its outputs, at most t shares of each input, and these suffice. The
--- t wires needn't be inner ones.
+-- Any t wires of a strong circuit, with shares of its outputs beside them, are simulated from the need of the t wires
+-- alone, which has at most t shares of each input: shares of outputs need nothing, and the t wires needn't be inner ones.
 abbrev pub StrongNeed : Type 0
 StrongNeed = (c : Netlist) (N : ℕ) (P : List ℕ) (O : ℕ → ℕ → Bool) → 2 ≤ N → IsCircuit c → IsStrong c → AreAllowed c N P O →
-    HasAtMost c N (need c N (P ++ output_places c N O)) (length P)
-    × IsSimulated c N (P ++ output_places c N O) (need c N (P ++ output_places c N O))
+    HasAtMost c N (need c N P) (length P) × IsSimulated c N (P ++ output_places c N O) (need c N P)
 
 -- So it is strongly non-interfering.
 abbrev pub StrongIsSNI : Type 0
