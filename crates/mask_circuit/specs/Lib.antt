@@ -1,9 +1,11 @@
 pub mod Acceptance
 pub mod Expansion
+pub mod Labels
 pub mod Need
 pub mod Netlist
 pub mod Probing
 pub mod Ring
 pub mod Shift
+pub mod Text
 pub mod Value
 pub mod Wires

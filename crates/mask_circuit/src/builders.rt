@@ -1,6 +1,6 @@
 //! A circuit under construction.
 
-ghost use Rattle.std.specs.Prelude.{◌≡◌, ℕ, ◌+◌, ◌<◌, ◌≤◌, ◌↔◌, [], ◌∷◌, ◌++◌, length, IfOk, OnOk, OnErr, IsErrOf, IsOkAnd};
+ghost use Rattle.std.specs.Prelude.{◌≡◌, ℕ, ◌+◌, ◌<◌, ◌≤◌, ◌↔◌, [], ◌∷◌, ◌++◌, length, IfOk, OnOk, OnErr, IsErrOf, IsOkAnd, IsTrue};
 ghost use Rattle.mask_circuit.specs.Netlist.{Netlist, IsCircuit, OperandsBelow, value_count, only_inputs, with_gate, with_output};
 ghost use Rattle.mask_circuit.specs.declared.gates.Gate.TheVariants.{Zero, One, Xor, Not, And, Ref};
 ghost use Rattle.mask_circuit.specs.declared.builders.CircuitError.TheVariants.{NoMemory};
@@ -73,6 +73,20 @@ impl Builder {
         ensures circuit { IsCircuit self.now }
     {
         self.inputs + self.gates.len() as u32
+    }
+
+    /// Whether there is a gate so far.
+    pub fn has_gates(&self) -> bool
+        ensures { IsTrue result ↔ (0 < length self.now.gates) }
+    {
+        !self.gates.is_empty()
+    }
+
+    /// How many values are handed out so far.
+    pub fn output_count(&self) -> u32
+        ensures { result ≡ length self.now.outputs }
+    {
+        self.outputs.len() as u32
     }
 
     fn append(&mut self, gate: Gate) -> Result<u32, CircuitError>

@@ -6,11 +6,15 @@
 mod builders;
 mod circuits;
 mod gates;
+mod groups;
+mod labelled;
 mod limits;
 
 pub use builders::{Builder, CircuitError};
 pub use circuits::Circuit;
 pub use gates::Gate;
+pub use groups::Group;
+pub use labelled::{Labelled, MAX_GROUPS};
 pub use limits::{MAX_OUTPUTS, MAX_VALUES};
 
 #[cfg(test)]

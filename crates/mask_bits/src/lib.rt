@@ -1,0 +1,13 @@
+//! Lists of bits, and how bytes are read as bits.
+//!
+//! There are two readings. Low first, bit `8b + i` is the bit of weight 2^i of byte b. High first,
+//! the bytes are one big-endian number, and bit j is the one of weight 2^j.
+#![tactic(auto)]
+
+mod bits;
+mod readings;
+mod square;
+
+pub use bits::Bits;
+pub use readings::{bits_high_first, bits_low_first, bytes_of_high, bytes_of_low};
+pub use square::transpose_64;

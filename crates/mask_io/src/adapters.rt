@@ -1,0 +1,190 @@
+//! Files, pipes and terminals as sources, sinks and entropy.
+//!
+//! They tell no bytes: what a file holds isn't known here. A write that is done and a flush that
+//! fails would break a promise on what was written, too.
+
+ghost use Rattle.std.specs.Prelude.{◌≡◌, ℕ, ◌<◌, length, None, IfOk, OnOk, OnErr, MatchResult, if◌then◌else◌};
+ghost use Rattle.std.specs.Result.{is_err};
+ghost use Rattle.std.specs.Io.{WritesAtMost};
+ghost use Rattle.mask_io.specs.Outside.{counted, NeverFalls, Gives, Accepts, Takes, Fails};
+
+use crate::{Entropy, Failed, Sink, Source};
+use std::io::{self, Read, Write};
+use std::marker::Model;
+
+const CHUNK: usize = 4096;
+
+/// A reader as a source.
+#[derive(Drop)]
+pub struct StdSource<R: Read> {
+    inner: R,
+    faults: u64,
+}
+
+impl<R: Read> Model for StdSource<R> {
+    ghost use Rattle.std.specs.Prelude.{ℕ};
+
+    ghost Value = { ℕ };
+
+    ghost view = { λ s. s.faults };
+}
+
+impl<R: Read> StdSource<R> {
+    /// Reads from `inner`.
+    pub fn new(inner: R) -> StdSource<R>
+        ensures untold { ⟦<StdSource<R> as Source>⟧.left result ≡ None }
+        ensures no_fault { ⟦<StdSource<R> as Source>⟧.faults result ≡ 0 }
+    {
+        StdSource { inner, faults: 0 }
+    }
+}
+
+impl<R: Read> Source for StdSource<R> {
+    ghost left = { λ _. None };
+
+    ghost faults = { λ s. s };
+
+    // The reader writes into a chunk of this call, so that it can't touch the rest of the buffer.
+    fn read(&mut self, buf: &mut [u8]) -> Result<usize, Failed>
+        ensures ok { IfOk result (Gives None None buf.old buf.new) }
+        ensures err { OnErr result (Fails None None self.old self.new) }
+        ensures never_falls { NeverFalls self.old self.new }
+        ensures count { self.new ≡ (if is_err result then counted self.old else self.old) }
+    {
+        let mut chunk = [0; CHUNK];
+        let room = buf.len().min(CHUNK);
+        match self.inner.read(&mut chunk[..room]) {
+            Ok(count) => {
+                buf[..count].copy_from_slice(&chunk[..count]);
+                Ok(count)
+            }
+            Err(_) => {
+                self.faults = self.faults.saturating_add(1);
+                Err(Failed)
+            }
+        }
+    }
+}
+
+/// A writer as a sink. Each write is flushed.
+#[derive(Drop)]
+pub struct StdSink<W: Write> {
+    inner: W,
+    faults: u64,
+}
+
+impl<W: Write> Model for StdSink<W> {
+    ghost use Rattle.std.specs.Prelude.{ℕ};
+
+    ghost Value = { ℕ };
+
+    ghost view = { λ s. s.faults };
+}
+
+impl<W: Write> StdSink<W> {
+    /// Writes to `inner`.
+    pub fn new(inner: W) -> StdSink<W>
+        ensures untold { ⟦<StdSink<W> as Sink>⟧.written result ≡ None }
+        ensures no_fault { ⟦<StdSink<W> as Sink>⟧.faults result ≡ 0 }
+    {
+        StdSink { inner, faults: 0 }
+    }
+}
+
+impl<W: Write> Sink for StdSink<W> {
+    ghost written = { λ _. None };
+
+    ghost faults = { λ s. s };
+
+    // A write of no bytes, where there are some, is a failure.
+    fn write(&mut self, piece: &[u8]) -> Result<usize, Failed>
+        ensures ok { IfOk result (Accepts None None piece.now) }
+        ensures err { OnErr result (Fails None None self.old self.new) }
+        ensures never_falls { NeverFalls self.old self.new }
+        ensures count { self.new ≡ (if is_err result then counted self.old else self.old) }
+    {
+        match write_and_flush(&mut self.inner, piece) {
+            Ok(count) if count > 0 || piece.is_empty() => Ok(count),
+            _ => {
+                self.faults = self.faults.saturating_add(1);
+                Err(Failed)
+            }
+        }
+    }
+}
+
+fn write_and_flush<W: Write>(inner: &mut W, piece: &[u8]) -> io::Result<usize>
+    ensures { WritesAtMost result piece.now }
+{
+    let count = inner.write(piece)?;
+    inner.flush()?;
+    Ok(count)
+}
+
+/// A reader as entropy.
+#[derive(Drop)]
+pub struct FileEntropy<R: Read> {
+    inner: R,
+    faults: u64,
+    wanted: usize,
+}
+
+impl<R: Read> Model for FileEntropy<R> {
+    ghost use Rattle.mask_io.specs.Outside.{Refusals};
+
+    ghost Value = { Refusals };
+
+    ghost view = { λ s. record { faults = s.faults; wanted = s.wanted } };
+}
+
+impl<R: Read> FileEntropy<R> {
+    /// Draws from `inner`.
+    pub fn new(inner: R) -> FileEntropy<R>
+        ensures untold { ⟦<FileEntropy<R> as Entropy>⟧.left result ≡ None }
+        ensures no_fault { ⟦<FileEntropy<R> as Entropy>⟧.faults result ≡ 0 }
+        ensures no_want { ⟦<FileEntropy<R> as Entropy>⟧.wanted result ≡ 0 }
+    {
+        FileEntropy {
+            inner,
+            faults: 0,
+            wanted: 0,
+        }
+    }
+}
+
+impl<R: Read> Entropy for FileEntropy<R> {
+    ghost left = { λ _. None };
+
+    ghost faults = { λ s. s.faults };
+
+    ghost wanted = { λ s. s.wanted };
+
+    fn fill(&mut self, buf: &mut [u8]) -> Result<(), Failed>
+        ensures ok { OnOk result (Takes None None buf.new) }
+        ensures err { OnErr result (Fails None None self.old.faults self.new.faults) }
+        ensures never_falls { NeverFalls self.old.faults self.new.faults }
+        ensures wants { MatchResult result
+            (λ _. self.new.wanted ≡ self.old.wanted)
+            (λ _. self.new.wanted ≡ length buf.old) }
+        ensures count { self.new.faults ≡ (if is_err result then counted self.old.faults else self.old.faults) }
+    {
+        if !reads_whole(&mut self.inner, buf) {
+            self.faults = self.faults.saturating_add(1);
+            self.wanted = buf.len();
+            return Err(Failed);
+        }
+        Ok(())
+    }
+}
+
+// Reads until the buffer is full, unless a read fails or gives no byte.
+fn reads_whole<R: Read>(inner: &mut R, buf: &mut [u8]) -> bool {
+    let mut filled = 0;
+    while filled < buf.len() {
+        match inner.read(&mut buf[filled..]) {
+            Ok(count) if count > 0 => filled += count,
+            _ => return false,
+        }
+    }
+    true
+}

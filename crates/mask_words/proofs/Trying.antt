@@ -1,0 +1,81 @@
+-- Trying the forms of the table one after another.
+use Rattle.std.proofs.Common.{◌≡◌, ◌⊎◌, ℕ, ◌+◌, ◌<◌, ◌≤◌, List, length, get_or, refl, sym, subst, arith, below_more, lit<, lit≤}
+use Rattle.std.proofs.Common.{inl, inr}
+use Rattle.std.proofs.lemmas.Bool.{cases_lt}
+use Rattle.mask_words.specs.declared.table.Form.{Form}
+use Rattle.mask_words.specs.declared.table.Form.TheVariants as forms
+use Rattle.mask_words.specs.declared.table.TheConstants.{FORMS}
+use Rattle.mask_words.specs.WordTests.{Word}
+use Rattle.mask_words.specs.Jobs.{tests_of, reach, Match, CouldGoOn, IsRefused}
+use Rattle.mask_words.proofs.Matching.{goes_on, reach-goes_on, reach-bound}
+
+-- the form in row k of the table
+abbrev pub form_at : ℕ → Form
+form_at k = get_or FORMS k forms.Eval
+
+-- each form has a row
+row_of : (f : Form) → (k : ℕ) × (k < length FORMS) × (form_at k ≡ f)
+row_of forms.Eval = (0, lit< tt, refl)
+
+-- a form has few tests
+few_tests : (f : Form) → length (tests_of f) ≤ 1000000
+few_tests forms.Eval = lit≤ tt
+
+-- the first n forms are not that of the words, and none of them reaches farther
+pub record Tried (ws : List Word) (n farthest : ℕ) : Type 0 where
+  pub in_words : farthest ≤ length ws
+  pub in_tests : farthest ≤ 1000000
+  pub none : (k : ℕ) → k < n → Match (tests_of (form_at k)) ws → ⊥
+  pub below : (k : ℕ) → k < n → reach (tests_of (form_at k)) ws ≤ farthest
+  pub could_go_on : (q : ℕ) → q ≤ farthest → CouldGoOn ws q
+
+-- words that reach so far in a form can go on
+form_goes_on : (ws : List Word) (f : Form) (q : ℕ) → q ≤ reach (tests_of f) ws → CouldGoOn ws q
+form_goes_on ws f q h = let on = goes_on (tests_of f) ws q h in (f, on.0, on.1)
+
+pub Tried-none : (ws : List Word) → Tried ws 0 0
+Tried-none ws = record {
+  in_words = omega arith;
+  in_tests = omega arith;
+  none = λ k h. absurd (omega arith);
+  below = λ k h. absurd (omega arith);
+  could_go_on = λ q h. form_goes_on ws forms.Eval q (omega arith);
+}
+
+-- one more form is tried, which isn't that of the words; now is the farther of the reaches
+pub Tried-more : (ws : List Word) (n far reached now : ℕ) → Tried ws n far → reached ≡ reach (tests_of (form_at n)) ws →
+    (Match (tests_of (form_at n)) ws → ⊥) → (now ≡ far × reached ≤ far) ⊎ (now ≡ reached × far ≤ reached) → Tried ws (n + 1) now
+Tried-more ws n far reached now tried is other farther =
+    let bound = reach-bound (tests_of (form_at n)) ws in
+    let few : length (tests_of (form_at n)) ≤ 1000000 = few_tests (form_at n) in
+    record {
+      in_words = let h = tried.in_words in elim farther [ inl w ↦ omega arith | inr w ↦ omega arith ];
+      in_tests = let h = tried.in_tests in elim farther [ inl w ↦ omega arith | inr w ↦ omega arith ];
+      none = below_more (λ k. Match (tests_of (form_at k)) ws → ⊥) n tried.none other;
+      below = below_more (λ k. reach (tests_of (form_at k)) ws ≤ now) n
+          (λ k h. let b = tried.below k h in elim farther [ inl w ↦ omega arith | inr w ↦ omega arith ])
+          (elim farther [ inl w ↦ omega arith | inr w ↦ omega arith ]);
+      could_go_on = λ q h. elim farther [ inl w ↦ tried.could_go_on q (omega arith) | inr w ↦ form_goes_on ws (form_at n) q (omega arith) ];
+    }
+
+-- once all forms are tried, the words are refused one past the farthest reach
+module _ (ws : List Word) (far : ℕ) (tried : Tried ws (length FORMS) far) where
+  no_match : (f : Form) → Match (tests_of f) ws → ⊥
+  no_match f m =
+      let row = row_of f in
+      tried.none row.0 row.1 (subst (λ (g : Form). Match (tests_of g) ws) (sym row.2) m)
+
+  no_farther : (f : Form) → reach (tests_of f) ws ≤ far
+  no_farther f = let row = row_of f in subst (λ (g : Form). reach (tests_of g) ws ≤ far) row.2 (tried.below row.0 row.1)
+
+  past : far < length ws → CouldGoOn ws (far + 1) → ⊥
+  past h on =
+      let reached = reach-goes_on (tests_of on.0) ws on.1 (far + 1) (omega arith) on.2 in
+      let bound = no_farther on.0 in omega arith
+
+  pub IsRefused-tried : IsRefused ws (far + 1)
+  IsRefused-tried = record {
+    no_job = λ job is. no_match is.0 is.1;
+    least = λ q h. tried.could_go_on q (omega arith);
+    stops = elim (cases_lt far (length ws)) [ inl within ↦ inr (omega arith, past within) | inr end ↦ inl (let h = tried.in_words in omega arith) ];
+  }

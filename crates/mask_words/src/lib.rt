@@ -1,0 +1,9 @@
+//! The words of a command line, the table of commands, and the job that words name.
+#![tactic(auto)]
+
+mod command_lines;
+mod table;
+mod word_tests;
+
+pub use command_lines::{MAX_WORDS, Words};
+pub use table::{BadWords, Job, read_words};

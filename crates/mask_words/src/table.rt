@@ -1,0 +1,109 @@
+//! The table of commands, and the job that words name by it.
+
+ghost use Rattle.std.specs.Prelude.{◌≡◌, ℕ, ◌+◌, ◌-◌, ◌*◌, ◌<◌, ◌≤◌, List, length, IfOk, IfErr, drop, take};
+ghost use Rattle.std.specs.Prelude.{IsTrue, ◌↔◌};
+ghost use Rattle.mask_words.specs.WordTests.{is_order};
+ghost use Rattle.mask_words.specs.Jobs.{tests_of, reach, Match, order_of, job_of, IsJob, IsRefused};
+
+use crate::command_lines::Words;
+use crate::word_tests::{Command, Test};
+
+/// A form that a command line may have: a row of the table of commands.
+#[derive(Clone, Copy, Debug, PartialEq, Eq)]
+pub enum Form {
+    /// `KEYS TAPE eval ORDER HEX`
+    Eval,
+}
+
+/// All forms.
+pub const FORMS: [Form; 1] = [Form::Eval];
+
+/// The words of `eval`.
+pub const EVAL: [Test; 5] = [
+    Test::Given,
+    Test::Tape,
+    Test::Named(Command::Eval),
+    Test::Order,
+    Test::Hex,
+];
+
+/// What the words of a command line ask for.
+#[derive(Clone, Copy, Debug, PartialEq, Eq)]
+pub enum Job {
+    /// Evaluate a circuit at this order, 1 to 7.
+    Eval { order: u32 },
+}
+
+/// The words are no job. No job's words begin with the first `place` words, or more words are wanted than there are.
+#[derive(Clone, Copy, Debug, PartialEq, Eq)]
+pub struct BadWords {
+    /// Counted from 1.
+    pub place: u32,
+}
+
+impl Form {
+    fn tests(self) -> &'static [Test]
+        ensures { result.now ≡ tests_of self }
+    {
+        match self {
+            Form::Eval => &EVAL,
+        }
+    }
+}
+
+/// How many words from the front pass their tests.
+fn reach(tests: &[Test], words: &Words) -> usize
+    ensures { result ≡ reach tests.now words.now }
+{
+    let mut passed = 0;
+    while passed < tests.len() && passed < words.len() && tests[passed].passes(words.word(passed)) {
+        passed += 1;
+    }
+    passed
+}
+
+/// The job that the words name, or the place at which they are refused. It takes no memory.
+pub fn read_words(words: &Words) -> Result<Job, BadWords>
+    ensures job { IfOk result (IsJob words.now) }
+    ensures refused { IfErr result (λ e. IsRefused words.now e.place) }
+{
+    let mut farthest = 0;
+    for form in FORMS {
+        let passed = reach(form.tests(), words);
+        if is_whole(form, words, passed) {
+            return Ok(job_of(form, words));
+        }
+        if passed > farthest {
+            farthest = passed;
+        }
+    }
+    Err(BadWords {
+        place: farthest as u32 + 1,
+    })
+}
+
+// All tests are passed, and no word is left.
+fn is_whole(form: Form, words: &Words, passed: usize) -> bool
+    requires { passed ≡ reach (tests_of form) words.now }
+    ensures { IsTrue result ↔ Match (tests_of form) words.now }
+{
+    passed == form.tests().len() && passed == words.len()
+}
+
+fn job_of(form: Form, words: &Words) -> Job
+    requires { Match (tests_of form) words.now }
+    ensures { result ≡ job_of form words.now }
+{
+    match form {
+        Form::Eval => Job::Eval {
+            order: order_of(words.word(3)),
+        },
+    }
+}
+
+fn order_of(word: &str) -> u32
+    requires { IsTrue (is_order word.now) }
+    ensures { result ≡ order_of word.now }
+{
+    u32::from(word.as_bytes()[0] - b'0')
+}
