@@ -12,11 +12,13 @@ xor_left_comm false b c = refl
 xor_left_comm true true c = refl
 xor_left_comm true false c = refl
 
+-- what is added twice is gone
 pub xor_cancel : (a b : Bool) → xor a (xor a b) ≡ b
 xor_cancel false b = refl
 xor_cancel true true = refl
 xor_cancel true false = refl
 
+-- a product with a sum is the sum of products
 pub xor_and : (a b c : Bool) → (xor a b && c) ≡ xor (a && c) (b && c)
 xor_and true true true = refl
 xor_and true true false = refl
@@ -32,10 +34,12 @@ abbrev pub total : (ℕ → Bool) → ℕ → Bool
 total f zero = false
 total f (suc n) = xor (total f n) (f n)
 
+-- the sum of two lists end to end
 xor_all-append : (xs ys : List Bool) → xor_all (xs ++ ys) ≡ xor (xor_all xs) (xor_all ys)
 xor_all-append [] ys = refl
 xor_all-append (x ∷ xs) ys = ap (xor x) (xor_all-append xs ys) ∙ sym (xor_assoc x (xor_all xs) (xor_all ys))
 
+-- the sum of a list that is made by number
 pub xor_all-each : (f : ℕ → Bool) (n : ℕ) → xor_all (each f n) ≡ total f n
 xor_all-each f zero = refl
 xor_all-each f (suc n) = xor_all-append (each f n) (f n ∷ []) ∙ ap₂ xor (xor_all-each f n) (xor-false (f n))
@@ -50,6 +54,7 @@ pub total_same : (f g : ℕ → Bool) (n : ℕ) → ((i : ℕ) → i < n → f i
 total_same f g zero h = refl
 total_same f g (suc n) h = ap₂ xor (total_same f g n (λ i l. h i (omega arith))) (h n (omega arith))
 
+-- zeros sum to zero
 pub total_none : (n : ℕ) → total (λ i. false) n ≡ false
 total_none zero = refl
 total_none (suc n) = rw (total_none n) refl
@@ -59,6 +64,7 @@ pub total-and_left : (a : Bool) (f : ℕ → Bool) (n : ℕ) → total (λ i. a 
 total-and_left true f n = refl
 total-and_left false f n = total_none n
 
+-- the same with the factor on the right
 pub total-and_right : (a : Bool) (f : ℕ → Bool) (n : ℕ) → total (λ i. f i && a) n ≡ (total f n && a)
 total-and_right a f zero = refl
 total-and_right a f (suc n) = rw (total-and_right a f n) (sym (xor_and (total f n) (f n) a))
@@ -75,6 +81,7 @@ corner false t true b = refl
 corner true t false b = simp xor-false
 corner true t true b = simp sums
 
+-- where the old square and its new border sum to what they should, so does the new square
 grow : (s t a b d o p q : Bool) → xor d o ≡ (s && t) → xor p q ≡ xor (s && b) (a && t) → xor (xor d (a && b)) (xor (xor o p) q) ≡ (xor s a && xor t b)
 grow s t a b d o p q old border =
     let sorted : xor (xor d (a && b)) (xor (xor o p) q) ≡ xor (xor d o) (xor (xor p q) (a && b)) = simp (xor_comm, xor_assoc, xor_left_comm) in

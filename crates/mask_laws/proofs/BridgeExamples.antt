@@ -14,6 +14,7 @@ three_shares = refl
 mixed : Netlist
 mixed = record { inputs = 2; gates = Xor 0 1 ∷ Not 2 ∷ And 3 1 ∷ []; outputs = 4 ∷ [] }
 
+-- what each of the values reaches ..
 mixed_reach : map (λ u. each (reach mixed u) 5) (0 ∷ 1 ∷ 2 ∷ 3 ∷ 4 ∷ [])
     ≡ (true ∷ false ∷ false ∷ false ∷ false ∷ [])
     ∷ (false ∷ true ∷ false ∷ false ∷ false ∷ [])
@@ -24,6 +25,7 @@ mixed_reach : map (λ u. each (reach mixed u) 5) (0 ∷ 1 ∷ 2 ∷ 3 ∷ 4 ∷ 
 unfolding mixed reach
 mixed_reach = refl
 
+-- .. so the clash is at value 4, with input 1
 mixed_clash : clash mixed ≡ Some (4, 1)
 unfolding mixed reach clash
 mixed_clash = refl

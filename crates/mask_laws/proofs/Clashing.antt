@@ -13,9 +13,11 @@ use Rattle.mask_laws.proofs.GateAt.{gate_at_within, gate_at_operands}
 use Rattle.mask_laws.proofs.Confining.{AreGatesAt, AreGatesAt-all}
 use Rattle.mask_laws.proofs.Reaching.{source_low, IsTable, table_is}
 
+-- a clash is a product whose operands share a source
 pub clash_refutes : ClashRefutes
 clash_refutes c p s clash accepted = accepted p s clash.shared
 
+-- of two lowest ones each is no higher than the other
 pub clash_is_unique : ClashIsUnique
 clash_is_unique c p s q t one two = go (one.lowest q t two.shared) (two.lowest p s one.shared)
   where
@@ -30,6 +32,7 @@ abbrev pub IsLeast : (ℕ → Bool) → ℕ → Option ℕ → Type 0
 IsLeast test n None = (k : ℕ) → k < n → test k ≡ false
 IsLeast test n (Some k) = (k < n) × (test k ≡ true) × ((j : ℕ) → j < k → test j ≡ false)
 
+-- `least` finds it
 pub least_is : (test : ℕ → Bool) (n : ℕ) → IsLeast test n (least test n)
 least_is test zero = λ k lt. absurd (omega arith)
 least_is test (suc n) = go (least test n) refl (least_is test n) (test n) refl
@@ -51,6 +54,7 @@ abbrev IsSource : Netlist → ℕ → Option ℕ → Type 0
 IsSource c n None = (t : ℕ) → IsShared c n t → ⊥
 IsSource c n (Some s) = IsShared c n s × ((t : ℕ) → IsShared c n t → s ≤ t)
 
+-- for a product it is the least number that both rows of the table have ..
 product_source : (c : Netlist) (n u v : ℕ) (R : Table) → AreGates c.inputs c.gates → IsTable c (value_count c) R →
     gate_at c n ≡ Some (And u v) → (o : Option ℕ) → IsLeast (λ s. R u s && R v s) n o → IsSource c n o
 product_source c n u v R are table is o found = go o found
@@ -78,6 +82,7 @@ product_source c n u v R are table is o found = go o found
           λ t h. let b = both t h in elim (cases_lt t s) [ inl l ↦ absurd (both_ways (R u t && R v t) (some.2 t l) b.1) | inr g ↦ g ],
         )
 
+-- .. and other gates have none
 source_is : (c : Netlist) (g : Gate) (n : ℕ) (R : Table) → AreGates c.inputs c.gates → IsTable c (value_count c) R →
     gate_at c n ≡ Some g → IsSource c n (shared_source R g n)
 source_is c Zero n R are table is = λ t h. let e = shared_gate c n t Zero is h in cc
@@ -93,6 +98,7 @@ IsClashFrom c n None = (p s : ℕ) → n ≤ p → IsShared c p s → ⊥
 IsClashFrom c n (Some q) =
     (n ≤ q.0) × IsShared c q.0 q.1 × ((p t : ℕ) → n ≤ p → IsShared c p t → (q.0 < p) ⊎ ((q.0 ≡ p) × (q.1 ≤ t)))
 
+-- one gate more in front
 clash_step : (c : Netlist) (n : ℕ) (o : Option ℕ) (later : Option (ℕ × ℕ)) → IsSource c n o → IsClashFrom c (suc n) later → IsClashFrom c n (or_later n o later)
 clash_step c n (Some s) later here rest = (
   omega arith,
@@ -115,12 +121,14 @@ clash_step c n None (Some q) here rest = (
   ],
 )
 
+-- the computed clash of these gates is the lowest from the first of them on
 clashes : (c : Netlist) (gs : List Gate) (n : ℕ) (R : Table) → AreGates c.inputs c.gates → IsTable c (value_count c) R → AreGatesAt c gs n →
     n + length gs ≡ value_count c → IsClashFrom c n (clash_from R gs n)
 clashes c [] n R are table at end = λ p s le h. let within = gate_at_within c p _ h.is_product in omega arith
 clashes c (g ∷ gs) n R are table at end =
     clash_step c n _ _ (source_is c g n R are table at.0) (clashes c gs (suc n) R are table at.1 (omega arith))
 
+-- so is that of the whole circuit
 clash_found : (c : Netlist) → IsCircuit c → IsClashFrom c c.inputs (clash c)
 unfolding clash
 clash_found c is = clashes c c.gates c.inputs (reach c) is.gates (table_is c is) (AreGatesAt-all c) refl
@@ -129,9 +137,11 @@ clash_found c is = clashes c c.gates c.inputs (reach c) is.gates (table_is c is)
 shared_within : (c : Netlist) (p s : ℕ) → IsShared c p s → c.inputs ≤ p
 shared_within c p s h = (gate_at_within c p _ h.is_product).0
 
+-- from the inputs on it is the lowest of all
 clash_from_found : (c : Netlist) (q : ℕ × ℕ) → IsClashFrom c c.inputs (Some q) → IsClash c q.0 q.1
 clash_from_found c q found = record { shared = found.1; lowest = λ p t h. found.2 p t (shared_within c p t h) h }
 
+-- the computed clash decides
 pub clash_decides : ClashDecides
 clash_decides c is = go (clash c) refl (clash_found c is)
   where

@@ -27,6 +27,7 @@ gate_at_within c v g is = go (cases_lt v c.inputs)
         let within = slice_get_within c.gates (v - c.inputs) g (sym (ap (gate_at c) e ∙ gate_at_gate c (v - c.inputs)) ∙ is) in
         (le, omega arith)
 
+-- the operands of gate k of a list, the first of which makes value n
 operands_of : (gs : List Gate) (n k : ℕ) (g : Gate) → AreGates n gs → slice_get gs k ≡ Some g → OperandsBelow (n + k) g
 operands_of [] n k g are is = absurd (none-some g is)
 operands_of (h ∷ gs) n zero g are is =

@@ -20,10 +20,12 @@ use Rattle.mask_laws.proofs.Confining.{AreGatesAt, AreGatesAt-all}
 
 -- LISTS
 
+-- a function of each element of a list that is made by number
 map-each : {A B : Type 0} (f : A → B) (g : ℕ → A) (n : ℕ) → map f (each g n) ≡ each (λ i. f (g i)) n
 map-each f g zero = refl
 map-each f g (suc n) = map-append f (each g n) (g n ∷ []) ∙ ap (λ xs. xs ++ f (g n) ∷ []) (map-each f g n)
 
+-- pieces that are the same join to the same list
 joined_same : {A : Type 0} (f g : ℕ → List A) (n : ℕ) → ((i : ℕ) → i < n → f i ≡ g i) → joined f n ≡ joined g n
 joined_same f g zero h = refl
 joined_same f g (suc n) h = ap₂ (λ xs ys. xs ++ ys) (joined_same f g n (λ i l. h i (omega arith))) (h n (omega arith))
@@ -47,9 +49,11 @@ slice_get-places_before test (x ∷ xs) k a e passes one =
 abbrev named : Netlist → ℕ → ℕ → List Place
 named c N v = map (λ w. (v, w)) (names_of c N v)
 
+-- the shares of an input by name
 input_named : (c : Netlist) (N v : ℕ) → v < c.inputs → each (λ i. (v, Share i)) N ≡ named c N v
 input_named c N v lt = sym (ap (λ o. map (λ w. (v, w)) (names_by N o)) (gate_at_input c v lt) ∙ map-each (λ w. (v, w)) Share N)
 
+-- the names of these gates follow those of all values before them
 gates_named : (c : Netlist) (N : ℕ) (gs : List Gate) (n : ℕ) → AreGatesAt c gs n → joined (named c N) n ++ names_from N gs n ≡ joined (named c N) (n + length gs)
 gates_named c N [] n at = let e : n ≡ n + 0 = omega arith in append-nil _ ∙ ap (joined (named c N)) e
 gates_named c N (g ∷ gs) n at =
@@ -65,15 +69,18 @@ names_joined c N =
     ap (λ xs. xs ++ names_from N c.gates c.inputs) (joined_same _ _ c.inputs (input_named c N))
     ∙ gates_named c N c.gates c.inputs (AreGatesAt-all c)
 
+-- how many names there are before value n
 length-named : (c : Netlist) (N n : ℕ) → length (joined (named c N) n) ≡ wires_before c N n
 length-named c N zero = refl
 length-named c N (suc n) =
     length-append (joined (named c N) n) (named c N n)
     ∙ ap₂ (λ a b. a + b) (length-named c N n) (length-map (names_of c N n) (λ w. (n, w)))
 
+-- so many wires there are
 pub wires_are_counted : WiresAreCounted
 wires_are_counted c N = ap length (names_joined c N) ∙ length-named c N (value_count c)
 
+-- and each stands in its place
 pub wires_in_order : WiresInOrder
 wires_in_order c N v k w lt e =
     ap (λ xs. slice_get xs (wires_before c N v + k)) (names_joined c N)
@@ -96,11 +103,13 @@ same_share i (Partial j k) e = absurd (true≢false (sym e))
 abbrev pub is_share_of : ℕ → ℕ → Place → Bool
 is_share_of u i p = p.0 == u && same_wire (Share i) p.1
 
+-- one place alone is called so ..
 is_share_of-true : (u i : ℕ) (p : Place) → is_share_of u i p ≡ true → p ≡ (u, Share i)
 is_share_of-true u i p e =
     let parts = and_parts (p.0 == u) (same_wire (Share i) p.1) e in
     ap₂ (λ a b. (a, b)) (eqb-true p.0 u parts.0) (same_share i p.1 parts.1)
 
+-- .. and it is
 is_share_of-same : (u i : ℕ) → is_share_of u i (u, Share i) ≡ true
 is_share_of-same u i = and_from (u == u) (i == i) (eq-eqb u u refl) (eq-eqb i i refl)
 
@@ -113,10 +122,12 @@ gate_share N (Not u) i two lt = (gate_names-by_shape N (Not u) (Share i) two).1 
 gate_share N (And u v) i two lt = (gate_names-by_shape N (And u v) (Share i) two).1 lt
 gate_share N (Ref u) i two lt = (gate_names-by_shape N (Ref u) (Share i) two).1 lt
 
+-- so has each value
 value_share : (N : ℕ) (o : Option Gate) (i : ℕ) → 2 ≤ N → i < N → Contains (names_by N o) (Share i)
 value_share N None i two lt = gate_share N Zero i two lt
 value_share N (Some g) i two lt = gate_share N g i two lt
 
+-- so the first wire that is called share i of value u is the one
 pub shares_have_places : SharesHavePlaces
 shares_have_places c N u i two within lt =
     let k = value_share N (gate_at c u) i two lt in

@@ -30,15 +30,18 @@ abbrev pub output_names : ℕ → (ℕ → ℕ → Bool) → List ℕ → ℕ �
 output_names N O [] k = []
 output_names N O (u ∷ us) k = map (λ i. (u, Share i)) (members N (O k)) ++ output_names N O us (suc k)
 
+-- they are below n
 members-below : (N : ℕ) (set : ℕ → Bool) → All (λ i. i < N) (members N set)
 members-below N set = All-filter set (λ i. i < N) (each (λ i. i) N) (All-each (λ i. i < N) (λ i. i) N (λ i lt. lt))
 
 -- PLACES AND NAMES
 
+-- one function after another, where the two together are a third
 map_both : {A B C : Type 0} (f : A → B) (g : B → C) (h : A → C) (xs : List A) → All (λ a. g (f a) ≡ h a) xs → map g (map f xs) ≡ map h xs
 map_both f g h [] all = refl
 map_both f g h (x ∷ xs) all = ap₂ (λ y ys. y ∷ ys) (all 0 x (omega arith)) (map_both f g h xs (λ k d lt. all (suc k) d (omega arith)))
 
+-- the shares from output k on have these names ..
 places_from-names : (c : Netlist) (N : ℕ) (O : ℕ → ℕ → Bool) → 2 ≤ N → (us : List ℕ) (k : ℕ) → All (λ u. u < value_count c) us →
     probes_at c N (places_from c N O us k) ≡ output_names N O us k
 places_from-names c N O two [] k known = refl
@@ -52,6 +55,7 @@ places_from-names c N O two (u ∷ us) k known =
     (members N (O k)) (members-below N (O k))))
     (places_from-names c N O two us (suc k) (All-tail (λ u. u < value_count c) u us known))
 
+-- .. and are wires of the circuit
 places_from-below : (c : Netlist) (N : ℕ) (O : ℕ → ℕ → Bool) → 2 ≤ N → (us : List ℕ) (k : ℕ) → All (λ u. u < value_count c) us →
     All (λ p. p < wire_count c N) (places_from c N O us k)
 places_from-below c N O two [] k known = λ j d lt. absurd (omega arith)
@@ -80,12 +84,14 @@ shares-inner : (m u : ℕ) (is : List ℕ) → inner_probes m (map (λ i. (u, Sh
 shares-inner m u [] = refl
 shares-inner m u (i ∷ is) = rw (and_right (u == m) false refl) (shares-inner m u is)
 
+-- so of no value is any among the inner probes
 pub output_names-inner : (N : ℕ) (O : ℕ → ℕ → Bool) (us : List ℕ) (k m : ℕ) → inner_probes m (output_names N O us k) ≡ []
 output_names-inner N O [] k m = refl
 output_names-inner N O (u ∷ us) k m =
     inner_probes-append m (map (λ i. (u, Share i)) (members N (O k))) (output_names N O us (suc k))
     ∙ ap₂ (λ xs ys. xs ++ ys) (shares-inner m u (members N (O k))) (output_names-inner N O us (suc k) m)
 
+-- of one output: a share that is asked for is in its set
 shares-only : (set : ℕ → Bool) (u v i : ℕ) (is : List ℕ) → All (λ a. set a ≡ true) is → probed_shares (map (λ a. (u, Share a)) is) v i ≡ true → (u ≡ v) × (set i ≡ true)
 shares-only set u v i [] all e = absurd (true≢false (sym e))
 shares-only set u v i (a ∷ is) all e = elim (or_cases (u == v && i == a) (probed_shares (map (λ a. (u, Share a)) is) v i) e) [
@@ -116,6 +122,7 @@ output_names-only N O (u ∷ us) k v i e =
         let e : k + suc r.0 ≡ suc k + r.0 = omega arith in
         (suc r.0, omega (arith, r.1), r.2, ap (λ m. O m i) e ∙ r.3)
 
+-- each number of the set is among its members
 members-all : (N : ℕ) (set : ℕ → Bool) (i : ℕ) → i < N → set i ≡ true → Contains (members N set) i
 members-all zero set i lt e = absurd (omega arith)
 members-all (suc n) set i lt e = subst (λ (xs : List ℕ). Contains xs i) (sym (filter-append set (each (λ i. i) n) (n ∷ [])))
@@ -127,6 +134,7 @@ members-all (suc n) set i lt e = subst (λ (xs : List ℕ). Contains xs i) (sym 
     go (inr (inl l)) up = Contains-append_left (members n set) (filter set (n ∷ [])) i (up l)
     go (inr (inr g)) up = absurd (omega arith)
 
+-- the value at an element is among the values
 pub Contains-map : {A B : Type 0} (f : A → B) (xs : List A) (a : A) → Contains xs a → Contains (map f xs) (f a)
 Contains-map f [] a h = absurd (none_in_nil a h)
 Contains-map f (x ∷ xs) a h = go (Contains-cons_cases x xs a h) (λ t. Contains-map f xs a t)

@@ -19,9 +19,11 @@ Onward c n s (Not u) = Reaches c u s
 Onward c n s (And u v) = s ≡ n
 Onward c n s (Ref u) = s ≡ n
 
+-- a value has one gate
 onward_at : (c : Netlist) (n s : ℕ) (g h : Gate) → gate_at c n ≡ Some h → gate_at c n ≡ Some g → Onward c n s h → Onward c n s g
 onward_at c n s g h is e o = subst (Onward c n s) (same_Some h g (sym is ∙ e)) o
 
+-- what value n reaches it reaches through its gate
 pub onward : (c : Netlist) (g : Gate) (n s : ℕ) → Reaches c n s → gate_at c n ≡ Some g → Onward c n s g
 onward c g n s (Input lt) e = absurd (none-some g (sym (gate_at_input c n lt) ∙ e))
 onward c g n s (ProductHere is) e = onward_at c n s g _ is e refl
@@ -64,7 +66,7 @@ pub record IsTable (c : Netlist) (n : ℕ) (R : Table) : Type 0 where
   pub sound : (u s : ℕ) → R u s ≡ true → (u < n) × Reaches c u s
   pub complete : (u s : ℕ) → u < n → Reaches c u s → R u s ≡ true
 
--- the row of one gate
+-- the row of one gate has only what its value reaches ..
 row_sound : (c : Netlist) (g : Gate) (n s : ℕ) (R : Table) → gate_at c n ≡ Some g → IsTable c n R → gate_reach g n R s ≡ true → Reaches c n s
 row_sound c Zero n s R is table e = absurd (true≢false (sym e))
 row_sound c One n s R is table e = absurd (true≢false (sym e))
@@ -76,6 +78,7 @@ row_sound c (Not u) n s R is table e = FromNegated is (table.sound u s e).1
 row_sound c (And u v) n s R is table e = subst (λ (m : ℕ). Reaches c n m) (sym (eqb-true s n e)) (ProductHere is)
 row_sound c (Ref u) n s R is table e = subst (λ (m : ℕ). Reaches c n m) (sym (eqb-true s n e)) (RefreshHere is)
 
+-- .. and all of it
 row_complete : (c : Netlist) (g : Gate) (n s : ℕ) (R : Table) → IsTable c n R → OperandsBelow n g → Onward c n s g → gate_reach g n R s ≡ true
 row_complete c Zero n s R table below o = absurd o
 row_complete c One n s R table below o = absurd o
@@ -85,9 +88,7 @@ row_complete c (Not u) n s R table below o = table.complete u s below o
 row_complete c (And u v) n s R table below o = eq-eqb s n o
 row_complete c (Ref u) n s R table below o = eq-eqb s n o
 
-with_row : Table → ℕ → (ℕ → Bool) → Table
-with_row R n row u s = cond (u == n) (row s) (R u s)
-
+-- a table with one row more
 IsTable_more : (c : Netlist) (n : ℕ) (R : Table) (row : ℕ → Bool) → IsTable c n R → ((s : ℕ) → row s ≡ true → Reaches c n s) →
     ((s : ℕ) → Reaches c n s → row s ≡ true) → IsTable c (suc n) (λ u s. cond (u == n) (row s) (R u s))
 IsTable_more c n R row table sound complete = record {
@@ -103,6 +104,7 @@ IsTable_more c n R row table sound complete = record {
     complete_at u s lt (inl e) r = rw (eq-eqb u n e) (complete s (subst (λ (m : ℕ). Reaches c m s) e r))
     complete_at u s lt (inr ne) r = rw (ne_eqb u n ne) (table.complete u s (omega arith) r)
 
+-- and with a row for each of these gates
 tables : (c : Netlist) (gs : List Gate) (n : ℕ) (R : Table) → AreGatesAt c gs n → AreGates n gs → IsTable c n R → IsTable c (n + length gs) (reach_from gs n R)
 tables c [] n R at are table = let e : n ≡ n + 0 = omega arith in subst (λ (m : ℕ). IsTable c m R) e table
 tables c (g ∷ gs) n R at are table =
@@ -112,6 +114,7 @@ tables c (g ∷ gs) n R at are table =
     (λ s r. row_complete c g n s R table are.0 (onward c g n s r is)) in
     subst (λ (m : ℕ). IsTable c m (reach_from (g ∷ gs) n R)) e (tables c gs (suc n) _ at.1 are.1 more)
 
+-- the rows of the inputs
 start_table : (c : Netlist) → IsTable c c.inputs (λ u s. nat_lt u c.inputs && u == s)
 start_table c = record {
   sound = λ u s e. sound_at u s (cases_lt u c.inputs) e;
@@ -122,10 +125,12 @@ start_table c = record {
     sound_at u s (inl lt) e = (lt, subst (λ (m : ℕ). Reaches c u m) (eqb-true u s (rw (lt-ltb u c.inputs lt) at e)) (Input lt))
     sound_at u s (inr le) e = absurd (true≢false (sym (rw (le-ltb u c.inputs le) at e)))
 
+-- the table of the circuit is right about all values
 pub table_is : (c : Netlist) → IsCircuit c → IsTable c (value_count c) (reach c)
 unfolding reach
 table_is c is = tables c c.gates c.inputs _ (AreGatesAt-all c) is.gates (start_table c)
 
+-- and these are all that reach anything
 pub table_reaches : TableReaches
 table_reaches c is u s =
     let table = table_is c is in
@@ -141,6 +146,7 @@ pub record IsPassed (c : Netlist) (s : ℕ) : Type 0 where
   pub uses : Uses s (Some gate)
   pub no_product : (u v : ℕ) → gate ≡ And u v → ⊥
 
+-- from the refresh itself, or through the gate that uses it
 passed : (c : Netlist) (u s w : ℕ) → Reaches c u s → gate_at c s ≡ Some (Ref w) → (u ≡ s) ⊎ IsPassed c s
 passed c u s w (Input lt) is = inl refl
 passed c u s w (ProductHere e) is = inl refl
@@ -158,6 +164,7 @@ passed c u s w (FromNegated {u = a} e r) is = elim (passed c _ s w r is) [
   | inr p ↦ inr p
 ]
 
+-- the operands of a tidy product share no source: the right one reaches itself alone, and the left one not that
 pub tidy_accepted : TidyIsAccepted
 tidy_accepted c tidy p s shared =
     let u = shared.left in

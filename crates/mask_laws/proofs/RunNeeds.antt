@@ -16,6 +16,7 @@ use Rattle.mask_laws.proofs.Strengthening.{size_cases, need_small}
 
 -- PLACES
 
+-- what passes a test and what fails it are the whole list
 filter_parts : (test : ℕ → Bool) (xs : List ℕ) → length (filter test xs) + length (filter (λ x. not (test x)) xs) ≡ length xs
 filter_parts test [] = refl
 filter_parts test (x ∷ xs) = go (test x) (filter_parts test xs)
@@ -32,17 +33,20 @@ length-places n P =
     let both = filter_parts (λ p. nat_lt p n) P in
     omega arith
 
+-- the places on the first n wires are below n
 pub places_within-below : (n : ℕ) (P : List ℕ) → All (λ p. p < n) (places_within n P)
 places_within-below n P = All-weaker (λ p. nat_lt p n ≡ true) (λ p. p < n) (λ p e. ltb-true p n e) (places_within n P) (filter_passes (λ p. nat_lt p n) P)
 
 -- SOURCES
 
+-- bits whose sum is 0 are the same
 not_xor : (a b : Bool) → not (xor a b) ≡ true → a ≡ b
 not_xor true true e = refl
 not_xor true false e = absurd (true≢false (sym e))
 not_xor false true e = absurd (true≢false (sym e))
 not_xor false false e = refl
 
+-- the test finds the same source alone ..
 same_source-true : (s t : Source) → same_source s t ≡ true → s ≡ t
 same_source-true (Public a) (Public b) e = ap Public (not_xor a b e)
 same_source-true (Public a) (Variable v) e = absurd (true≢false (sym e))
@@ -55,12 +59,14 @@ same_source-true (Output i l) (Variable v) e = absurd (true≢false (sym e))
 same_source-true (Output i l) (Output j k) e =
     let parts = and_parts (i == j) (l == k) e in ap₂ (λ a b. Output a b) (eqb-true i j parts.0) (eqb-true l k parts.1)
 
+-- .. and finds it
 same_source-itself : (s : Source) → same_source s s ≡ true
 same_source-itself (Public true) = refl
 same_source-itself (Public false) = refl
 same_source-itself (Variable v) = eq-eqb v v refl
 same_source-itself (Output j k) = and_from (j == j) (k == k) (eq-eqb j j refl) (eq-eqb k k refl)
 
+-- some number below n passes where the test says so ..
 any_below : (test : ℕ → Bool) (n : ℕ) → list_any test (each (λ v. v) n) ≡ true → (v : ℕ) × (v < n) × (test v ≡ true)
 any_below test zero e = absurd (true≢false (sym e))
 any_below test (suc n) e = go (or_cases (list_any test (each (λ v. v) n)) (test n || false) (sym (list_any-append test (each (λ v. v) n) (n ∷ [])) ∙ e)) (any_below test n)
@@ -70,6 +76,7 @@ any_below test (suc n) e = go (or_cases (list_any test (each (λ v. v) n)) (test
     go (inl old) up = let r = up old in (r.0, omega (arith, r.1), r.2)
     go (inr new) up = elim (or_cases (test n) false new) [ inl is ↦ (n, omega arith, is) | inr never ↦ absurd (true≢false (sym never)) ]
 
+-- .. and the test says so where one does
 below_any : (test : ℕ → Bool) (n v : ℕ) → v < n → test v ≡ true → list_any test (each (λ v. v) n) ≡ true
 below_any test zero v lt is = absurd (omega arith)
 below_any test (suc n) v lt is = list_any-append test (each (λ v. v) n) (n ∷ []) ∙ go (cases_order v n) (λ l. below_any test n v l is)
@@ -150,14 +157,17 @@ call_allowed call calls N j P counts are few =
 
 -- STRONG RUNS
 
+-- the first of these calls are strong calls
 begin : (counts : List ℕ) (calls : List Call) (k : ℕ) → AreStrongCalls counts calls → AreStrongCalls counts (take k calls)
 begin counts calls zero are = tt
 begin counts [] (suc k) are = tt
 begin counts (call ∷ calls) (suc k) are = (are.0, begin _ calls k are.1)
 
+-- so the first calls of a run are one
 pub strong_runs_begin : StrongRunsBegin
 strong_runs_begin calls k are = begin [] calls k are
 
+-- strong calls that follow these
 grow : (counts : List ℕ) (calls more : List Call) → AreStrongCalls counts calls →
     AreStrongCalls (counts ++ map (λ call. length call.circuit.outputs) calls) more → AreStrongCalls counts (calls ++ more)
 grow counts [] more are later = subst (λ (ns : List ℕ). AreStrongCalls ns more) (append-nil counts) later
@@ -168,5 +178,6 @@ grow counts (call ∷ calls) more are later =
           (subst (λ (ns : List ℕ). AreStrongCalls ns more) (sym (append_assoc counts (m ∷ []) (map (λ call. length call.circuit.outputs) calls))) later),
     )
 
+-- so a run grows by strong calls
 pub strong_runs_grow : StrongRunsGrow
 strong_runs_grow calls more are later = grow [] calls more are later

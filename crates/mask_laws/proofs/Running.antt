@@ -40,6 +40,7 @@ shift_run (call ∷ calls) N j x y a b P r =
     let new = call_shift call calls N j P s s' own in
     new ++ shift_run calls N (suc j) x y (with_outputs N j (evaluation call s own) a) (with_outputs N j (evaluation call s' new) b) (places_behind (call_wires N call) P) (drop (call_draws N call) r)
 
+-- it is as long as before
 length-call_shift : (call : Call) (calls : List Call) (N j : ℕ) (P : List ℕ) (s s' : ℕ → Shares Bool) (own : List Bool) → length (call_shift call calls N j P s s' own) ≡ length own
 length-call_shift call calls N j P s s' own = length-shift_from _ N call.circuit.gates call.circuit.inputs _ _ own
 
@@ -96,6 +97,7 @@ inputs_agree call calls N j P counts x y a b two is agree v i within lt needed =
     (demanded_by-all call own v i within
     (sym (need_with_outputs call.circuit N (places_within (call_wires N call) P) (asked_of call calls N j P) two is.circuit is.strong v i within) ∙ needed)))
 
+-- lists that are the same have the same first element and the same rest
 same_cons : {A : Type 0} (a b : A) (xs ys : List A) → a ∷ xs ≡ b ∷ ys → (a ≡ b) × (xs ≡ ys)
 same_cons a b xs ys e = (cc, cc)
 
@@ -108,6 +110,7 @@ same_at f g (y ∷ xs) x e h = go (Contains-cons_cases y xs x h) (λ rest. same_
     go (inl same) up = subst (λ z. f z ≡ g z) same (same_cons (f y) (g y) (map f xs) (map g xs) e).0
     go (inr rest) up = up rest
 
+-- an element that passes is among those that pass
 Contains-filter : (test : ℕ → Bool) (xs : List ℕ) (x : ℕ) → Contains xs x → test x ≡ true → Contains (filter test xs) x
 Contains-filter test [] x h e = absurd (none_in_nil x h)
 Contains-filter test (y ∷ xs) x h e = go (test y) refl (Contains-cons_cases y xs x h) (λ rest. Contains-filter test xs x rest e)
@@ -153,10 +156,12 @@ outputs_kept call calls N j P counts s s' own two are few agree long k i lt belo
     sym ((shift_keeps gate_keeps c N s s' Q own two are.0.circuit.gates (asked_within c N within O two are.0.circuit allowed)
     (asked_fits c N within O two are.0.circuit are.0.strong allowed) agree long).1 (output_at c k) i (are.0.circuit.outputs k 0 lt) below demanded)
 
+-- the outputs of the call itself ..
 with_new : (N j : ℕ) (call : Call) (s : ℕ → Shares Bool) (own : List Bool) (a : Outputs) (l k i : ℕ) → l ≡ j →
     with_outputs N j (evaluation call s own) a l k i ≡ shares_of (expand bits call.circuit N s own) (output_at call.circuit k) i
 with_new N j call s own a l k i same = ap (λ (f : Shares Bool). f i) (cond-true (l == j) (shares_of (expand bits call.circuit N s own) (output_at call.circuit k)) (a l k) (eq-eqb l j same))
 
+-- .. and those of others, which stay
 with_old : (N j : ℕ) (call : Call) (s : ℕ → Shares Bool) (own : List Bool) (a : Outputs) (l k i : ℕ) → (l ≡ j → ⊥) →
     with_outputs N j (evaluation call s own) a l k i ≡ a l k i
 with_old N j call s own a l k i other = ap (λ (f : Shares Bool). f i) (cond-false (l == j) (shares_of (expand bits call.circuit N s own) (output_at call.circuit k)) (a l k) (ne_eqb l j other))
@@ -213,6 +218,7 @@ wires_parts call calls N j x a own rest long =
     ap₂ (λ own rest. wires bits call.circuit N (input_shares x a call) own ++ wires_from calls N (suc j) x (with_outputs N j (evaluation call (input_shares x a call) own) a) rest)
     (take_front (call_draws N call) own rest long) (drop_front (call_draws N call) own rest long)
 
+-- a circuit has as many wires whatever they carry
 length-wires : (c : Netlist) (N : ℕ) (s : ℕ → Shares Bool) (r : List Bool) → length (wires bits c N s r) ≡ wire_count c N
 length-wires c N s r = length-map (names c N) (λ p. expand bits c N s r p.0 p.1)
 
@@ -225,6 +231,7 @@ same_parts xs xs' ys ys' n p size size' front back = elim (cases_lt p n) [
   | inr le ↦ get_or-append_right xs ys n p false size le ∙ back le ∙ sym (get_or-append_right xs' ys' n p false size' le)
 ]
 
+-- a place behind the first n wires, counted from there
 place_behind : (n : ℕ) (P : List ℕ) (p : ℕ) → Contains P p → n ≤ p → Contains (places_behind n P) (p - n)
 place_behind n P p h le = Contains-map (λ q. q - n) (filter (λ q. not (nat_lt q n)) P) p
     (Contains-filter (λ q. not (nat_lt q n)) P p h (ap not (le-ltb p n le)))
@@ -252,16 +259,19 @@ shift_run-keeps (call ∷ calls) N j P counts x y a b r two are few number agree
     (later_agree call calls N j P counts x y a b own two are few number agree own_long) rest_long (p - w) (place_behind w P p h le))
     ∙ ap (λ ws. slice_index_or ws p false) (sym (wires_parts call calls N j y b new _ new_long))
 
+-- two functions that agree at the elements of a list make the same list
 map_agree : {A B : Type 0} (f g : A → B) (xs : List A) → ((x : A) → Contains xs x → f x ≡ g x) → map f xs ≡ map g xs
 map_agree f g [] h = refl
 map_agree f g (x ∷ xs) h = ap₂ (λ y ys. y ∷ ys) (h x (Contains-first x xs)) (map_agree f g xs (λ y k. h y (Contains-later x xs y k)))
 
+-- before any call the sides agree on the need of the variables
 start_agree : (calls : List Call) (N : ℕ) (P : List ℕ) (x y : ℕ → Shares Bool) → ((v i : ℕ) → i < N → run_need calls N P v i ≡ true → x v i ≡ y v i) →
     SidesAgree calls N P [] x y no_outputs no_outputs
 start_agree calls N P x y agree (Public bit) there i lt e = refl
 start_agree calls N P x y agree (Variable v) there i lt e = agree v i lt e
 start_agree calls N P x y agree (Output j k) there i lt e = refl
 
+-- what the places show has the same sum over all tapes as over the shifted tapes
 pub run_needs : RunNeed
 run_needs calls N P two are few = (
   λ v. demanded_small calls N P [] (Variable v) are (λ e. e),

@@ -26,10 +26,12 @@ use Rattle.mask_laws.proofs.Seen.{fitting_is_simulated}
 use Rattle.mask_laws.proofs.Simulation.{accepted_needs_few}
 use Rattle.mask_laws.proofs.OutputShares.{output_names, output_places-names, output_places-below, output_names-inner, output_names-only}
 
+-- nothing is added by false
 or-false : (a : Bool) → (a || false) ≡ a
 or-false true = refl
 or-false false = refl
 
+-- the last two of three change places
 or_turn : (a b d : Bool) → ((a || b) || d) ≡ ((a || d) || b)
 or_turn true b d = refl
 or_turn false true true = refl
@@ -69,6 +71,7 @@ demand_asked c S (Not u) n Q O v i are is =
 demand_asked c S (And u w) n Q O v i are is = refl
 demand_asked c S (Ref u) n Q O v i are is = refl
 
+-- the inner probes stay those of P
 inner_asked : (c : Netlist) (P S : List Place) (n : ℕ) → AreRefreshed c S → inner_probes n (P ++ S) ≡ inner_probes n P
 inner_asked c P S n are = inner_probes-append n P S ∙ ap (λ Q. inner_probes n P ++ Q) (are.shares n) ∙ append-nil (inner_probes n P)
 
@@ -88,6 +91,7 @@ need_asked c P S (g ∷ gs) n v i are at =
 abbrev pub HasRoom : ℕ → List Place → List Place → Type 0
 HasRoom N P S = (m : ℕ) → length P + size N (probed_shares S m) < N
 
+-- at a source the count of P leaves room for what is asked for ..
 fits_source : (c : Netlist) (N : ℕ) (P S : List Place) (g : Gate) (gs : List Gate) (n : ℕ) → IsAccepted c → AreRefreshed c S → HasRoom N P S →
     AreGatesAt c gs (suc n) → AreGates (suc n) gs → Reaches c n n → FitsGate N (inner_probes n (P ++ S)) (need_from (P ++ S) gs (suc n) n)
 fits_source c N P S g gs n accepted asked room at are source =
@@ -99,6 +103,7 @@ fits_source c N P S g gs n accepted asked room at are source =
     let free = room n in
     omega arith
 
+-- .. so each gate has it
 fits_at : (c : Netlist) (N : ℕ) (P S : List Place) (g : Gate) (gs : List Gate) (n : ℕ) → IsAccepted c → AreRefreshed c S → HasRoom N P S → gate_at c n ≡ Some g →
     AreGatesAt c gs (suc n) → AreGates (suc n) gs → FitsAt N g (inner_probes n (P ++ S)) (need_from (P ++ S) gs (suc n) n)
 fits_at c N P S Zero gs n accepted asked room is at are = tt
@@ -125,6 +130,7 @@ inputs_asked c P S v i asked lt =
 
 -- STRONG CIRCUITS
 
+-- the outputs of a fenced circuit are refreshes
 outputs_refreshed : (c : Netlist) (N : ℕ) (O : ℕ → ℕ → Bool) → IsFenced c → AreRefreshed c (output_names N O c.outputs 0)
 outputs_refreshed c N O fenced = record {
   shares = output_names-inner N O c.outputs 0;
@@ -141,6 +147,7 @@ outputs_apart c fenced j k one two same = elim (cases_order j k) [
   | inr other ↦ elim other [ inl l ↦ absurd ((fenced k two).is_first j l same) | inr g ↦ absurd ((fenced j one).is_first k g (sym same)) ]
 ]
 
+-- so where each set of shares leaves room, all that is asked for does
 outputs_room : (c : Netlist) (N : ℕ) (P : List Place) (O : ℕ → ℕ → Bool) → IsFenced c → length P < N →
     ((k : ℕ) → k < length c.outputs → length P + size N (O k) < N) → HasRoom N P (output_names N O c.outputs 0)
 outputs_room c N P O fenced few room m = go (size_cases N (probed_shares S m))
@@ -166,6 +173,7 @@ asked_names c N P O two is =
     map-append (λ p. slice_index_or (names c N) p (0, Share 0)) P (output_places c N O)
     ∙ ap (λ S. probes_at c N P ++ S) (output_places-names c N O two is.outputs)
 
+-- they are wires of the circuit
 pub asked_within : (c : Netlist) (N : ℕ) (P : List ℕ) (O : ℕ → ℕ → Bool) → 2 ≤ N → IsCircuit c → AreAllowed c N P O →
     All (λ p. p < wire_count c N) (P ++ output_places c N O)
 asked_within c N P O two is allowed = All-append (λ p. p < wire_count c N) P (output_places c N O) allowed.wires (output_places-below c N O two is.outputs)
@@ -191,6 +199,7 @@ need_with_outputs c N P O two is strong v i lt =
 pub need_small : (c : Netlist) (N : ℕ) (P : List ℕ) → IsCircuit c → IsStrong c → HasAtMost c N (need c N P) (length P)
 need_small c N P is strong v lt = let few = accepted_needs_few c N P is.gates strong.0 v (Input lt) in omega arith
 
+-- so they are simulated from the need of the probes alone
 pub strong_need : StrongNeed
 strong_need c N P O two is strong allowed = (
   need_small c N P is strong,

@@ -13,6 +13,7 @@ use Rattle.mask_circuit.specs.Expansion.{Trace, shares_of, put, start, run, expa
 use Rattle.mask_laws.specs.Sharing.{xor_all, unshared_inputs, ValuesUnmask, OutputsUnmask}
 use Rattle.mask_laws.proofs.Bits.{xor-false, xor_self, xor_comm}
 use Rattle.mask_laws.proofs.BitSums.{total, total-xor, total_same, total_none, xor_all-each, row_sum-total, square}
+use Rattle.mask_laws.proofs.Traces.{put-other}
 use Rattle.mask_laws.proofs.Places.{length-each, slice_get-each}
 
 -- GATES
@@ -26,12 +27,15 @@ total-on_first b (suc n) = rw (total-on_first b n, ne_eqb (suc n) 0 (λ e. omega
 abbrev off : (ℕ → ℕ → Bool) → ℕ → ℕ → Bool
 off entry i j = cond (i == j) false (entry i j)
 
+-- on the diagonal there is nothing
 off_diagonal : (entry : ℕ → ℕ → Bool) (i : ℕ) → off entry i i ≡ false
 off_diagonal entry i = rw (eq-eqb i i refl) refl
 
+-- off it there are the entries
 off_pair : (entry : ℕ → ℕ → Bool) (i j : ℕ) → i < j → xor (off entry i j) (off entry j i) ≡ xor (entry i j) (entry j i)
 off_pair entry i j lt = rw (ne_eqb i j (λ e. omega arith), ne_eqb j i (λ e. omega arith)) refl
 
+-- a fresh bit that stands in both wires of a pair is gone from their sum
 mixed : (r p q : Bool) → xor r (xor (xor r p) q) ≡ xor p q
 mixed false p q = refl
 mixed true true true = refl
@@ -67,6 +71,7 @@ refresh_total a r n =
 abbrev Stand : ℕ → ℕ → Trace Bool → List Bool → Type 0
 Stand N n t values = (u : ℕ) → u < n → total (shares_of t u) N ≡ value_at values u
 
+-- the shares of a gate sum to its value on the values before it
 gate_total : (N : ℕ) (g : Gate) (n : ℕ) (t : Trace Bool) (values r : List Bool) → 1 ≤ N → OperandsBelow n g → Stand N n t values →
     total (λ i. gate_wire bits N g (shares_of t) r (Share i)) N ≡ gate_value g values
 gate_total zero g n t values r one below stand = absurd (omega arith)
@@ -89,11 +94,9 @@ gate_total (suc m) (Ref u) n t values r one below stand =
 
 -- WHOLE CIRCUITS
 
-pub put_same : {X : Type 0} (n : ℕ) (wires : Wire → X) (t : Trace X) (u : ℕ) (w : Wire) → u ≡ n → put n wires t u w ≡ wires w
+-- value n has the new wires
+put_same : {X : Type 0} (n : ℕ) (wires : Wire → X) (t : Trace X) (u : ℕ) (w : Wire) → u ≡ n → put n wires t u w ≡ wires w
 put_same n wires t u w e = rw (eq-eqb u n e) refl
-
-pub put_other : {X : Type 0} (n : ℕ) (wires : Wire → X) (t : Trace X) (u : ℕ) (w : Wire) → (u ≡ n → ⊥) → put n wires t u w ≡ t u w
-put_other n wires t u w ne = rw (ne_eqb u n ne) refl
 
 -- one more value
 Stand_put : (N n : ℕ) (wires : Wire → Bool) (t : Trace Bool) (values : List Bool) (b : Bool) → length values ≡ n → Stand N n t values →
@@ -102,9 +105,10 @@ Stand_put N n wires t values b size stand new u lt = go (cases_order u n)
   where
     go : (u ≡ n) ⊎ ((u < n) ⊎ (n < u)) → total (shares_of (put n wires t) u) N ≡ value_at (values ++ b ∷ []) u
     go (inl e) = total_same _ _ N (λ i l. put_same n wires t u (Share i) e) ∙ (new ∙ sym (get_or_push values b false u (omega arith)))
-    go (inr (inl l)) = total_same _ _ N (λ i k. put_other n wires t u (Share i) (λ e. omega arith)) ∙ (stand u l ∙ sym (get_or_append_left values (b ∷ []) false u (omega arith)))
+    go (inr (inl l)) = total_same _ _ N (λ i k. put-other n u (Share i) wires t (λ e. omega arith)) ∙ (stand u l ∙ sym (get_or_append_left values (b ∷ []) false u (omega arith)))
     go (inr (inr g)) = absurd (omega arith)
 
+-- so do those of all values after these gates
 run_stands : (N : ℕ) (gs : List Gate) (n : ℕ) (t : Trace Bool) (values r : List Bool) → 1 ≤ N → AreGates n gs → length values ≡ n →
     Stand N n t values → Stand N (n + length gs) (run bits N gs n t r) (values_from gs values)
 run_stands N [] n t values r one are size stand u lt = stand u (omega arith)
@@ -114,6 +118,7 @@ run_stands N (g ∷ gs) n t values r one are size stand u lt =
     (Stand_put N n (gate_wire bits N g (shares_of t) (take (gate_draws N g) r)) t values (gate_value g values) size stand (gate_total N g n t values (take (gate_draws N g) r) one are.0 stand))
     u (omega arith)
 
+-- and those of the whole circuit
 pub values_unmask : ValuesUnmask
 values_unmask c N x r is one u lt =
     xor_all-each _ N
