@@ -3,5 +3,8 @@
 //! Each law is the contract of a public function with nothing to do; a crate above calls it, or cites its lemma.
 #![tactic(auto)]
 
+pub mod bridges;
 pub mod circuits;
 pub mod gadgets;
+pub mod runs;
+pub mod strong;

@@ -1,0 +1,219 @@
+-- Strong circuits: the shares of outputs that are asked for beside the inner wires fit too, and cost no further need.
+use Rattle.std.proofs.Common.{◌≡◌, ℕ, zero, suc, ◌+◌, ◌<◌, ◌≤◌, ◌⊎◌, inl, inr, Bool, true, false, cond, ◌&&◌, ◌||◌, ◌==◌, List, [], ◌∷◌, ◌++◌, length, slice_index_or, All, Some, refl, ap, ap₂, sym, ◌∙◌, subst, arith, append-nil}
+use Rattle.std.proofs.lemmas.Bool.{cases_order, false_from_ne_true}
+use Rattle.std.proofs.lemmas.List.{map-append, length-map}
+use Rattle.std.proofs.lemmas.List.Elements.{All-append, All-weaker}
+use Rattle.std.proofs.lemmas.List.Folds.{list_any-append}
+use Rattle.std.proofs.lemmas.Option.{none-some, same_Some}
+use Rattle.mask_circuit.specs.declared.gates.Gate.{Gate}
+use Rattle.mask_circuit.specs.declared.gates.Gate.TheVariants.{Zero, One, Xor, Not, And, Ref}
+use Rattle.mask_circuit.specs.Netlist.{Netlist, IsCircuit, AreGates}
+use Rattle.mask_circuit.specs.Wires.{Wire, Share}
+use Rattle.mask_circuit.specs.Expansion.{Place, names, wire_count}
+use Rattle.mask_circuit.specs.Probing.{same_wire, size, HasAtMost, IsInner, output_places}
+use Rattle.mask_circuit.specs.Need.{ShareSet, inner_probes, probed_shares, demand, need_from, need, probes_at}
+use Rattle.mask_circuit.specs.Acceptance.{gate_at, Reaches, Input, ProductHere, RefreshHere, IsAccepted, IsFenced, IsStrong, output_at}
+use Rattle.mask_laws.specs.Gadgets.{FitsGate}
+use Rattle.mask_laws.specs.Circuits.{FitsAt, FitsFrom, Fits}
+use Rattle.mask_laws.specs.Strong.{AreAllowed, StrongNeed, StrongIsSNI}
+use Rattle.mask_laws.proofs.Sets.{size-mono, size-or}
+use Rattle.mask_laws.proofs.Demands.{inner_probes-append}
+use Rattle.mask_laws.proofs.Confining.{AreGatesAt, AreGatesAt-all}
+use Rattle.mask_laws.proofs.Fitting.{source_count}
+use Rattle.mask_laws.proofs.GateAt.{gate_at_input}
+use Rattle.mask_laws.proofs.Gates.{gate_keeps}
+use Rattle.mask_laws.proofs.Seen.{fitting_is_simulated}
+use Rattle.mask_laws.proofs.Simulation.{accepted_needs_few}
+use Rattle.mask_laws.proofs.OutputShares.{output_names, output_places-names, output_places-below, output_names-inner, output_names-only}
+
+-- nothing is added by false
+or-false : (a : Bool) → (a || false) ≡ a
+or-false true = refl
+or-false false = refl
+
+-- the last two of three change places
+or_turn : (a b d : Bool) → ((a || b) || d) ≡ ((a || d) || b)
+or_turn true b d = refl
+or_turn false true true = refl
+or_turn false true false = refl
+or_turn false false d = sym (or-false d)
+
+-- a set is empty, or has an element
+pub size_cases : (n : ℕ) (f : ℕ → Bool) → (size n f ≡ 0) ⊎ ((i : ℕ) × (i < n) × (f i ≡ true))
+size_cases zero f = inl refl
+size_cases (suc n) f = go (f n) refl (size_cases n f)
+  where
+    go : (b : Bool) → f n ≡ b → (size n f ≡ 0) ⊎ ((i : ℕ) × (i < n) × (f i ≡ true)) →
+        (size n f + cond b 1 0 ≡ 0) ⊎ ((i : ℕ) × (i < suc n) × (f i ≡ true))
+    go true e old = inr (n, omega arith, e)
+    go false e (inl none) = inl (omega arith)
+    go false e (inr some) = inr (some.0, omega (arith, some.1), some.2)
+
+-- S are shares of values that refreshes make: none is an inner wire, and only values of refreshes are among them
+pub record AreRefreshed (c : Netlist) (S : List Place) : Type 0 where
+  pub shares : (m : ℕ) → inner_probes m S ≡ []
+  pub refreshed : (m i : ℕ) → probed_shares S m i ≡ true → (w : ℕ) × (gate_at c m ≡ Some (Ref w))
+
+-- so a gate that isn't a refresh has none of them
+unasked : (c : Netlist) (S : List Place) (m i : ℕ) (g : Gate) → AreRefreshed c S → gate_at c m ≡ Some g → ((w : ℕ) → g ≡ Ref w → ⊥) → probed_shares S m i ≡ false
+unasked c S m i g are is other = false_from_ne_true (probed_shares S m i)
+    (λ asked. let r = are.refreshed m i asked in other r.0 (same_Some g (Ref r.0) (sym is ∙ r.1)))
+
+-- to ask for them beside P makes no gate demand more: refreshes and products demand by their inner probes alone
+demand_asked : (c : Netlist) (S : List Place) (g : Gate) (n : ℕ) (Q : List Wire) (O : ShareSet) (v i : ℕ) → AreRefreshed c S → gate_at c n ≡ Some g →
+    demand g Q (λ j. O j || probed_shares S n j) v i ≡ demand g Q O v i
+demand_asked c S Zero n Q O v i are is = refl
+demand_asked c S One n Q O v i are is = refl
+demand_asked c S (Xor u w) n Q O v i are is =
+    ap (λ b. (v == u || v == w) && (O i || b)) (unasked c S n i (Xor u w) are is (λ a e. grind arith)) ∙ ap (λ b. (v == u || v == w) && b) (or-false (O i))
+demand_asked c S (Not u) n Q O v i are is =
+    ap (λ b. v == u && (O i || b)) (unasked c S n i (Not u) are is (λ a e. grind arith)) ∙ ap (λ b. v == u && b) (or-false (O i))
+demand_asked c S (And u w) n Q O v i are is = refl
+demand_asked c S (Ref u) n Q O v i are is = refl
+
+-- the inner probes stay those of P
+inner_asked : (c : Netlist) (P S : List Place) (n : ℕ) → AreRefreshed c S → inner_probes n (P ++ S) ≡ inner_probes n P
+inner_asked c P S n are = inner_probes-append n P S ∙ ap (λ Q. inner_probes n P ++ Q) (are.shares n) ∙ append-nil (inner_probes n P)
+
+-- what is demanded beside P is what is asked for, and nothing further
+pub need_asked : (c : Netlist) (P S : List Place) (gs : List Gate) (n v i : ℕ) → AreRefreshed c S → AreGatesAt c gs n →
+    need_from (P ++ S) gs n v i ≡ (need_from P gs n v i || probed_shares S v i)
+need_asked c P S [] n v i are at = list_any-append (λ p. p.0 == v && same_wire (Share i) p.1) P S
+need_asked c P S (g ∷ gs) n v i are at =
+    ap₂ (λ b (O : ShareSet). b || demand g (inner_probes n (P ++ S)) O v i) (need_asked c P S gs (suc n) v i are at.1)
+    (λ d j. need_asked c P S gs (suc n) n j are at.1 d)
+    ∙ ap (λ b. (need_from P gs (suc n) v i || probed_shares S v i) || b)
+    (ap (λ Q. demand g Q (λ j. need_from P gs (suc n) n j || probed_shares S n j) v i) (inner_asked c P S n are)
+    ∙ demand_asked c S g n (inner_probes n P) (need_from P gs (suc n) n) v i are at.0)
+    ∙ or_turn (need_from P gs (suc n) v i) (probed_shares S v i) (demand g (inner_probes n P) (need_from P gs (suc n) n) v i)
+
+-- the shares that are asked for of each value leave room for as many probes as P has
+abbrev pub HasRoom : ℕ → List Place → List Place → Type 0
+HasRoom N P S = (m : ℕ) → length P + size N (probed_shares S m) < N
+
+-- at a source the count of P leaves room for what is asked for ..
+fits_source : (c : Netlist) (N : ℕ) (P S : List Place) (g : Gate) (gs : List Gate) (n : ℕ) → IsAccepted c → AreRefreshed c S → HasRoom N P S →
+    AreGatesAt c gs (suc n) → AreGates (suc n) gs → Reaches c n n → FitsGate N (inner_probes n (P ++ S)) (need_from (P ++ S) gs (suc n) n)
+fits_source c N P S g gs n accepted asked room at are source =
+    let count = source_count c N P accepted gs (suc n) at are n source in
+    let inner : length (inner_probes n (P ++ S)) ≡ length (inner_probes n P) = ap length (inner_asked c P S n asked) in
+    let split : size N (need_from (P ++ S) gs (suc n) n) ≤ size N (λ i. need_from P gs (suc n) n i || probed_shares S n i) =
+    size-mono N _ _ (λ i k d. sym (need_asked c P S gs (suc n) n i asked at) ∙ d) in
+    let union = size-or N (need_from P gs (suc n) n) (probed_shares S n) in
+    let free = room n in
+    omega arith
+
+-- .. so each gate has it
+fits_at : (c : Netlist) (N : ℕ) (P S : List Place) (g : Gate) (gs : List Gate) (n : ℕ) → IsAccepted c → AreRefreshed c S → HasRoom N P S → gate_at c n ≡ Some g →
+    AreGatesAt c gs (suc n) → AreGates (suc n) gs → FitsAt N g (inner_probes n (P ++ S)) (need_from (P ++ S) gs (suc n) n)
+fits_at c N P S Zero gs n accepted asked room is at are = tt
+fits_at c N P S One gs n accepted asked room is at are = tt
+fits_at c N P S (Xor u v) gs n accepted asked room is at are = tt
+fits_at c N P S (Not u) gs n accepted asked room is at are = tt
+fits_at c N P S (And u v) gs n accepted asked room is at are = fits_source c N P S (And u v) gs n accepted asked room at are (ProductHere is)
+fits_at c N P S (Ref u) gs n accepted asked room is at are = fits_source c N P S (Ref u) gs n accepted asked room at are (RefreshHere is)
+
+-- With room for what is asked for, the list with it fits.
+pub fits_asked : (c : Netlist) (N : ℕ) (P S : List Place) (gs : List Gate) (n : ℕ) → IsAccepted c → AreRefreshed c S → HasRoom N P S →
+    AreGatesAt c gs n → AreGates n gs → FitsFrom N (P ++ S) gs n
+fits_asked c N P S [] n accepted asked room at are = tt
+fits_asked c N P S (g ∷ gs) n accepted asked room at are =
+    (fits_at c N P S g gs n accepted asked room at.0 at.1 are.1, fits_asked c N P S gs (suc n) accepted asked room at.1 are.1)
+
+-- and of the inputs nothing further is demanded
+pub inputs_asked : (c : Netlist) (P S : List Place) (v i : ℕ) → AreRefreshed c S → v < c.inputs → need_from (P ++ S) c.gates c.inputs v i ≡ need_from P c.gates c.inputs v i
+inputs_asked c P S v i asked lt =
+    need_asked c P S c.gates c.inputs v i asked (AreGatesAt-all c)
+    ∙ ap (λ b. need_from P c.gates c.inputs v i || b) (false_from_ne_true (probed_shares S v i)
+    (λ asks. let r = asked.refreshed v i asks in none-some (Ref r.0) (sym (gate_at_input c v lt) ∙ r.1)))
+    ∙ or-false (need_from P c.gates c.inputs v i)
+
+-- STRONG CIRCUITS
+
+-- the outputs of a fenced circuit are refreshes
+outputs_refreshed : (c : Netlist) (N : ℕ) (O : ℕ → ℕ → Bool) → IsFenced c → AreRefreshed c (output_names N O c.outputs 0)
+outputs_refreshed c N O fenced = record {
+  shares = output_names-inner N O c.outputs 0;
+  refreshed = λ m i asked.
+      let r = output_names-only N O c.outputs 0 m i asked in
+      let fence = (fenced r.0 r.1).is_refresh in
+      (fence.0, ap (gate_at c) (sym r.2) ∙ fence.1);
+}
+
+-- outputs are distinct, so that of each value at most the set of one output is asked for
+outputs_apart : (c : Netlist) → IsFenced c → (j k : ℕ) → j < length c.outputs → k < length c.outputs → output_at c j ≡ output_at c k → j ≡ k
+outputs_apart c fenced j k one two same = elim (cases_order j k) [
+  | inl e ↦ e
+  | inr other ↦ elim other [ inl l ↦ absurd ((fenced k two).is_first j l same) | inr g ↦ absurd ((fenced j one).is_first k g (sym same)) ]
+]
+
+-- so where each set of shares leaves room, all that is asked for does
+outputs_room : (c : Netlist) (N : ℕ) (P : List Place) (O : ℕ → ℕ → Bool) → IsFenced c → length P < N →
+    ((k : ℕ) → k < length c.outputs → length P + size N (O k) < N) → HasRoom N P (output_names N O c.outputs 0)
+outputs_room c N P O fenced few room m = go (size_cases N (probed_shares S m))
+  where
+    S : List Place
+    S = output_names N O c.outputs 0
+
+    go : (size N (probed_shares S m) ≡ 0) ⊎ ((i : ℕ) × (i < N) × (probed_shares S m i ≡ true)) → length P + size N (probed_shares S m) < N
+    go (inl none) = omega arith
+    go (inr some) =
+        let k = output_names-only N O c.outputs 0 m some.0 some.2 in
+        let free = room k.0 k.1 in
+        let within : size N (probed_shares S m) ≤ size N (O k.0) = size-mono N (probed_shares S m) (O k.0) (λ i lt asked.
+        let j = output_names-only N O c.outputs 0 m i asked in
+        let e : 0 + j.0 ≡ k.0 = omega (arith, outputs_apart c fenced j.0 k.0 j.1 k.1 (j.2 ∙ sym k.2)) in
+        ap (λ z. O z i) (sym e) ∙ j.3) in
+        omega arith
+
+-- the wires that are probed or asked for, by name
+pub asked_names : (c : Netlist) (N : ℕ) (P : List ℕ) (O : ℕ → ℕ → Bool) → 2 ≤ N → IsCircuit c →
+    probes_at c N (P ++ output_places c N O) ≡ probes_at c N P ++ output_names N O c.outputs 0
+asked_names c N P O two is =
+    map-append (λ p. slice_index_or (names c N) p (0, Share 0)) P (output_places c N O)
+    ∙ ap (λ S. probes_at c N P ++ S) (output_places-names c N O two is.outputs)
+
+-- they are wires of the circuit
+pub asked_within : (c : Netlist) (N : ℕ) (P : List ℕ) (O : ℕ → ℕ → Bool) → 2 ≤ N → IsCircuit c → AreAllowed c N P O →
+    All (λ p. p < wire_count c N) (P ++ output_places c N O)
+asked_within c N P O two is allowed = All-append (λ p. p < wire_count c N) P (output_places c N O) allowed.wires (output_places-below c N O two is.outputs)
+
+-- they fit
+pub asked_fits : (c : Netlist) (N : ℕ) (P : List ℕ) (O : ℕ → ℕ → Bool) → 2 ≤ N → IsCircuit c → IsStrong c → AreAllowed c N P O →
+    Fits c N (probes_at c N (P ++ output_places c N O))
+asked_fits c N P O two is strong allowed =
+    let size_is : length (probes_at c N P) ≡ length P = length-map P (λ p. slice_index_or (names c N) p (0, Share 0)) in
+    subst (Fits c N) (sym (asked_names c N P O two is))
+    (fits_asked c N (probes_at c N P) (output_names N O c.outputs 0) c.gates c.inputs strong.0 (outputs_refreshed c N O strong.1)
+    (outputs_room c N (probes_at c N P) O strong.1 (omega (arith, allowed.few)) (λ k lt. omega (arith, allowed.fewer k lt)))
+    (AreGatesAt-all c) is.gates)
+
+-- and need no more of the inputs than the probes alone
+pub need_with_outputs : (c : Netlist) (N : ℕ) (P : List ℕ) (O : ℕ → ℕ → Bool) → 2 ≤ N → IsCircuit c → IsStrong c → (v i : ℕ) → v < c.inputs →
+    need c N (P ++ output_places c N O) v i ≡ need c N P v i
+need_with_outputs c N P O two is strong v i lt =
+    ap (λ S. need_from S c.gates c.inputs v i) (asked_names c N P O two is)
+    ∙ inputs_asked c (probes_at c N P) (output_names N O c.outputs 0) v i (outputs_refreshed c N O strong.1) lt
+
+-- the need of few wires has few shares of each input
+pub need_small : (c : Netlist) (N : ℕ) (P : List ℕ) → IsCircuit c → IsStrong c → HasAtMost c N (need c N P) (length P)
+need_small c N P is strong v lt = let few = accepted_needs_few c N P is.gates strong.0 v (Input lt) in omega arith
+
+-- so they are simulated from the need of the probes alone
+pub strong_need : StrongNeed
+strong_need c N P O two is strong allowed = (
+  need_small c N P is strong,
+  λ x y agree. fitting_is_simulated gate_keeps c N (P ++ output_places c N O) two is.gates
+      (asked_within c N P O two is allowed) (asked_fits c N P O two is strong allowed) x y
+      (λ v i within lt needed. agree v i within lt (sym (need_with_outputs c N P O two is strong v i within) ∙ needed)),
+)
+
+-- So a strong circuit is strongly non-interfering.
+pub strong_is_sni : StrongIsSNI
+strong_is_sni c N two is strong P O inner few room =
+    let all = strong_need c N P O two is strong (record {
+      wires = All-weaker (λ p. (p < wire_count c N) × IsInner c N p) (λ p. p < wire_count c N) (λ p h. h.0) P inner;
+      few = few;
+      fewer = room;
+    }) in
+    (need c N P, all.0, all.1)

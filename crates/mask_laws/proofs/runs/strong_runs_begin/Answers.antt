@@ -1,0 +1,5 @@
+use Rattle.mask_laws.proofs.RunNeeds.{strong_runs_begin}
+use Rattle.mask_laws.proofs.runs.strong_runs_begin.Goals as goal
+
+pub returns : goal.returns
+returns c = strong_runs_begin

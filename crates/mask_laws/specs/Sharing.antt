@@ -1,0 +1,31 @@
+-- What shares stand for: the sum of the bits, which is the bit that was shared.
+use Rattle.std.specs.Prelude.{◌≡◌, ℕ, ◌<◌, ◌≤◌, Bool, false, List, [], ◌∷◌, map}
+use Rattle.mask_circuit.specs.Netlist.{Netlist, IsCircuit, value_count}
+use Rattle.mask_circuit.specs.Value.{xor, value_at, plain_values, plain}
+use Rattle.mask_circuit.specs.Ring.{bits}
+use Rattle.mask_circuit.specs.Wires.{Shares, each}
+use Rattle.mask_circuit.specs.Expansion.{expand, shares_of, outs}
+
+-- the sum of all bits of a list
+abbrev pub xor_all : List Bool → Bool
+xor_all [] = false
+xor_all (b ∷ bs) = xor b (xor_all bs)
+
+-- the bit that N shares stand for
+abbrev pub unshared : ℕ → Shares Bool → Bool
+unshared N s = xor_all (each s N)
+
+-- the input bits that the input shares stand for
+abbrev pub unshared_inputs : Netlist → ℕ → (ℕ → Shares Bool) → List Bool
+unshared_inputs c N x = each (λ v. unshared N (x v)) c.inputs
+
+-- The shares of each value stand for its plain value, whatever the tape ..
+abbrev pub ValuesUnmask : Type 0
+ValuesUnmask = (c : Netlist) (N : ℕ) (x : ℕ → Shares Bool) (r : List Bool) → IsCircuit c → 1 ≤ N →
+    (u : ℕ) → u < value_count c →
+    unshared N (shares_of (expand bits c N x r) u) ≡ value_at (plain_values c (unshared_inputs c N x)) u
+
+-- .. and so do those of each output.
+abbrev pub OutputsUnmask : Type 0
+OutputsUnmask = (c : Netlist) (N : ℕ) (x : ℕ → Shares Bool) (r : List Bool) → IsCircuit c → 1 ≤ N →
+    map xor_all (outs bits c N x r) ≡ plain c (unshared_inputs c N x)
