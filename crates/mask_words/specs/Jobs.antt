@@ -51,3 +51,7 @@ pub record IsRefused (ws : List Word) (p : ℕ) : Type 0 where
   pub no_job : (job : Job) → IsJob ws job → ⊥
   pub least : (q : ℕ) → q < p → CouldGoOn ws q
   pub stops : (p ≡ length ws + 1) ⊎ ((p ≤ length ws) × (CouldGoOn ws p → ⊥))
+
+-- Words are a job, or are refused at a place, and then at no other.
+abbrev pub HaveOneAnswer : Type 0
+HaveOneAnswer = (ws : List Word) (p q : ℕ) → IsRefused ws p → IsRefused ws q → p ≡ q

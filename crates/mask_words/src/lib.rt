@@ -6,4 +6,4 @@ mod table;
 mod word_tests;
 
 pub use command_lines::{MAX_WORDS, Words};
-pub use table::{BadWords, Job, read_words};
+pub use table::{BadWords, Job, read_words, words_have_one_answer};

@@ -3,7 +3,7 @@
 ghost use Rattle.std.specs.Prelude.{◌≡◌, ℕ, ◌+◌, ◌-◌, ◌*◌, ◌<◌, ◌≤◌, List, length, IfOk, IfErr, drop, take};
 ghost use Rattle.std.specs.Prelude.{IsTrue, ◌↔◌};
 ghost use Rattle.mask_words.specs.WordTests.{is_order};
-ghost use Rattle.mask_words.specs.Jobs.{tests_of, reach, Match, order_of, job_of, IsJob, IsRefused};
+ghost use Rattle.mask_words.specs.Jobs.{tests_of, reach, Match, order_of, job_of, IsJob, IsRefused, HaveOneAnswer};
 
 use crate::command_lines::Words;
 use crate::word_tests::{Command, Test};
@@ -106,4 +106,10 @@ fn order_of(word: &str) -> u32
     ensures { result ≡ order_of word.now }
 {
     u32::from(word.as_bytes()[0] - b'0')
+}
+
+/// Words are refused at one place, and those of a job at none.
+pub fn words_have_one_answer()
+    ensures { HaveOneAnswer }
+{
 }
