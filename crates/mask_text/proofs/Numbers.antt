@@ -8,7 +8,7 @@ use Rattle.std.specs.List.{list_all}
 use Rattle.mask_text.specs.Sayings.{is_digit, is_number, value_behind, number}
 
 -- is_digit and value_behind are std's digits and their value
-own : IsNumeralModel (λ ds. list_all is_digit ds ≡ true) (value_behind 0)
+pub own : IsNumeralModel (λ ds. list_all is_digit ds ≡ true) (value_behind 0)
 own = numerals_by_fold _ (search rules) value_behind (search rules)
 
 -- only 0 itself begins with the digit 0

@@ -1,5 +1,5 @@
 -- Pieces between separators.
-use Rattle.std.proofs.Common.{◌≡◌, ℕ, suc, ◌+◌, ◌-◌, ◌<◌, Bool, true, false, cond, eqb, List, [], ◌∷◌, length, get_or, take, drop, ◌⊎◌, inl, inr, refl, sym, ap, ◌∙◌, subst, arith, eq-eqb, add-one, length-drop, take_all}
+use Rattle.std.proofs.Common.{◌≡◌, ℕ, suc, ◌+◌, ◌-◌, ◌<◌, Bool, true, false, cond, eqb, List, [], ◌∷◌, ◌++◌, length, get_or, take, drop, ◌⊎◌, inl, inr, refl, sym, ap, ◌∙◌, subst, arith, eq-eqb, add-one, length-drop, take_all}
 use Rattle.std.specs.List.{All, slice_split, onto_first}
 use Rattle.std.proofs.Math.Seq as seq
 use Rattle.std.proofs.lemmas.List.Splits.{slice_split_at, slice_split_none}
@@ -41,7 +41,7 @@ some_piece separator (b ∷ bs) = by (eqb b separator) (slice_split (λ c. eqb c
     by false [] = (b ∷ [], [], refl)
     by false (x ∷ xs) = (b ∷ x, xs, refl)
 
-no_lines : text_lines [] ≡ []
+pub no_lines : text_lines [] ≡ []
 unfolding text_lines split_at
 no_lines = refl
 
@@ -65,6 +65,14 @@ lines_cut bytes front after some cut = by cut.pieces
     by (inr e) =
         ap no_empty_last e.0 ∙ last front (subst (λ (xs : List ℕ). 0 < length xs) (sym e.1) some)
         ∙ ap (λ xs. front ∷ xs) (sym (ap text_lines e.2 ∙ no_lines))
+
+-- the lines of a text that begins with a line and its line feed
+pub lines_at : (line rest : List ℕ) → All (λ b. eqb b 10 ≡ false) line → text_lines (line ++ 10 ∷ rest) ≡ line ∷ text_lines rest
+unfolding text_lines split_at
+lines_at line rest none =
+    let p = some_piece 10 rest in
+    ap no_empty_last (slice_split_at (λ b. eqb b 10) line 10 rest none refl)
+    ∙ ap (λ xs. no_empty_last (line ∷ xs)) p.2 ∙ ap (λ xs. line ∷ no_empty_last xs) (sym p.2)
 
 pub lines_none : (bytes : List ℕ) → length bytes ≡ 0 → text_lines bytes ≡ []
 lines_none [] e = no_lines

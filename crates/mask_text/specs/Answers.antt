@@ -1,12 +1,14 @@
 -- What the answer of a reader says of its source.
-use Rattle.std.specs.Prelude.{◌≡◌, ℕ, ◌+◌, ◌<◌, ◌≤◌, Option, Some, Result, Ok, Err, List, length}
+use Rattle.std.specs.Prelude.{◌≡◌, ℕ, ◌+◌, ◌<◌, ◌≤◌, Option, Some, Result, Ok, Err, List, length, ◌⊎◌}
 use Rattle.std.specs.Io.KnownBytes.{Consumes, IsAtEnd}
 use Rattle.mask_io.specs.Outside.{Rose}
 use Rattle.mask_text.specs.declared.errors.TextError.{TextError}
 use Rattle.mask_text.specs.declared.errors.TextError.TheVariants.{Bad, TooLong, ReadFault, NoMemory}
 use Rattle.mask_text.specs.declared.read.TheConstants.{MAX_TEXT}
 use Rattle.mask_text.specs.declared.source.TheConstants.{PIECE}
-use Rattle.mask_text.specs.Faults.{fault, fault_at}
+use Rattle.mask_circuit.specs.Labels.{LabelledNetlist}
+use Rattle.mask_text.specs.Text.{IsText}
+use Rattle.mask_text.specs.Faults.{Fault, fault, fault_at}
 
 -- A front of what the source had left was taken: at most the bytes of the longest text and one piece more.
 abbrev pub TakesFront : Option (List ℕ) → Option (List ℕ) → Type 0
@@ -31,3 +33,13 @@ Explains NoMemory before now was is = Unit {0}
 abbrev pub Answers : {A : Type 0} → (A → List ℕ → Type 0) → Result A TextError → Option (List ℕ) → Option (List ℕ) → ℕ → ℕ → Type 0
 Answers P (Ok value) before now was is = TakesAll before now (P value)
 Answers P (Err error) before now was is = Explains error before now was is
+
+-- the answer is this one, unless a read failed or memory ran out
+abbrev pub IsUnlessFailed : {A : Type 0} → Result A TextError → Result A TextError → Type 0
+IsUnlessFailed result answer = (result ≡ answer) ⊎ ((result ≡ Err ReadFault) ⊎ (result ≡ Err NoMemory))
+
+-- Which answer comes where these bytes are left, seen by what is kept of a labelled circuit.
+pub record IsAnswerTo {A : Type 0} (view : LabelledNetlist → A) (bytes : List ℕ) (result : Result A TextError) : Type 0 where
+  pub text : (l : LabelledNetlist) → IsText bytes l → length bytes ≤ MAX_TEXT → IsUnlessFailed result (Ok (view l))
+  pub bad : (first : Fault) → fault bytes ≡ Some first → length bytes ≤ MAX_TEXT → IsUnlessFailed result (Err (Bad first.line first.reason))
+  pub long : MAX_TEXT < length bytes → IsUnlessFailed result (Err (TooLong MAX_TEXT))

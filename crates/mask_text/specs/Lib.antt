@@ -1,7 +1,9 @@
 pub mod Answers
 pub mod Faults
+pub mod Laws
 pub mod Lines
 pub mod Readers
 pub mod Sayings
 pub mod Says
+pub mod Sends
 pub mod Text

@@ -1,6 +1,6 @@
 //! Why a text isn't read.
 
-ghost use Rattle.std.specs.Prelude.{◌≡◌};
+ghost use Rattle.std.specs.Prelude.{◌≡◌, ⊤};
 ghost use Rattle.mask_text.specs.declared.errors.Stop.TheVariants.{NoMemory};
 ghost use Rattle.mask_text.specs.declared.errors.TextError.TheVariants as errors;
 
@@ -38,6 +38,18 @@ pub enum TextError {
     ReadFault,
     /// There is no memory.
     NoMemory,
+}
+
+/// A sink failed.
+#[derive(Clone, Copy, Debug, PartialEq, Eq)]
+pub struct WriteFault;
+
+impl From<Failed> for WriteFault {
+    ghost from_gives = { λ _ _. ⊤ };
+
+    fn from(_failed: Failed) -> WriteFault {
+        WriteFault
+    }
 }
 
 impl From<Failed> for TextError {

@@ -6,6 +6,7 @@
 #![tactic(auto)]
 
 mod errors;
+mod laws;
 mod lines;
 mod names;
 mod place;
@@ -14,10 +15,14 @@ mod reader;
 mod said;
 mod sayings;
 mod source;
+mod spell;
+mod write;
 
-pub use errors::{Reason, TextError};
+pub use errors::{Reason, TextError, WriteFault};
+pub use laws::{canonical_stands, text_or_fault};
 pub use read::{MAX_TEXT, read_text};
 pub use source::{PIECE, read_circuit, read_labelled};
+pub use write::{write_circuit, write_labelled};
 
 #[cfg(test)]
 mod tests;

@@ -1,8 +1,8 @@
 //! Reading from a source.
 
-ghost use Rattle.std.specs.Prelude.{◌≡◌, ℕ, ⊤, IfOk, IfErr};
+ghost use Rattle.std.specs.Prelude.{◌≡◌, IfSome};
 ghost use Rattle.mask_io.specs.Outside.{NeverFalls};
-ghost use Rattle.mask_text.specs.Answers.{TakesFront, Answers};
+ghost use Rattle.mask_text.specs.Answers.{TakesFront, Answers, IsAnswerTo};
 ghost use Rattle.mask_text.specs.Text.{IsText, IsTextOf};
 
 use crate::errors::TextError;
@@ -39,7 +39,8 @@ fn read_all<S: Source>(alloc: Global, source: &mut S) -> Result<Vec<u8>, TextErr
 ///
 /// The source is read to its end, or until a read fails or more than `MAX_TEXT` bytes came.
 pub fn read_labelled<S: Source>(alloc: Global, source: &mut S) -> Result<Labelled, TextError>
-    ensures answer { Answers (λ l bytes. IsText bytes l) result
+    ensures always { IfSome (S.left source.old) (λ bytes. IsAnswerTo (λ l. l) bytes result) }
+    ensures only { Answers (λ l bytes. IsText bytes l) result
         (S.left source.old) (S.left source.new) (S.faults source.old) (S.faults source.new) }
     ensures front { TakesFront (S.left source.old) (S.left source.new) }
     ensures never_falls { NeverFalls (S.faults source.old) (S.faults source.new) }
@@ -51,7 +52,8 @@ pub fn read_labelled<S: Source>(alloc: Global, source: &mut S) -> Result<Labelle
 /// Reads a circuit from all that is left of a source, and drops the groups of a text that names
 /// them. All else is as with [`read_labelled`].
 pub fn read_circuit<S: Source>(alloc: Global, source: &mut S) -> Result<Circuit, TextError>
-    ensures answer { Answers (λ c bytes. IsTextOf bytes c) result
+    ensures always { IfSome (S.left source.old) (λ bytes. IsAnswerTo (λ l. l.circuit) bytes result) }
+    ensures only { Answers (λ c bytes. IsTextOf bytes c) result
         (S.left source.old) (S.left source.new) (S.faults source.old) (S.faults source.new) }
     ensures front { TakesFront (S.left source.old) (S.left source.new) }
     ensures never_falls { NeverFalls (S.faults source.old) (S.faults source.new) }
