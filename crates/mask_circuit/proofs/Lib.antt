@@ -1,3 +1,4 @@
+pub mod Draws
 pub mod Examples
 pub mod Growing
 pub mod Plain

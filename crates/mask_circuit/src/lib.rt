@@ -9,6 +9,8 @@ mod gates;
 mod groups;
 mod labelled;
 mod limits;
+mod queries;
+mod steps;
 
 pub use builders::{Builder, CircuitError};
 pub use circuits::Circuit;
@@ -16,6 +18,7 @@ pub use gates::Gate;
 pub use groups::Group;
 pub use labelled::{Labelled, MAX_GROUPS};
 pub use limits::{MAX_OUTPUTS, MAX_VALUES};
+pub use steps::Steps;
 
 #[cfg(test)]
 mod tests;

@@ -12,3 +12,28 @@ fn refuses_one_value_too_many(rt: HostRuntime) -> Result<(), Fail> {
     assert!(rt; Builder::new(rt.alloc(), 1_000_001).is_err());
     Ok(())
 }
+
+// A product of an input and the refreshed sum of two: what a copy, a look at its gates and its random bits give.
+#[test]
+fn answers_about_a_circuit(rt: HostRuntime) -> Result<(), Fail> {
+    let mut builder = Builder::new(rt.alloc(), 2)?;
+    if builder.values() == 2 {
+        let sum = builder.xor(0, 1)?;
+        let fresh = builder.refresh(sum)?;
+        let product = builder.and(0, fresh)?;
+        builder.out(product)?;
+    }
+    let circuit = builder.finish();
+    let copy = circuit.copy(rt.alloc())?;
+    assert!(rt; copy.inputs() == 2);
+    assert!(rt; copy.gates() == [Gate::Xor(0, 1), Gate::Ref(2), Gate::And(0, 3)].as_slice());
+    assert!(rt; copy.outputs() == [4].as_slice());
+    assert_eq!(rt; copy.draws(1), 2);
+    assert_eq!(rt; copy.draws(7), 56);
+    assert!(rt; copy.values() == 5);
+    if copy.values() == 5 {
+        assert!(rt; copy.gate_at(1).is_none());
+        assert!(rt; copy.gate_at(4) == Some(Gate::And(0, 3)));
+    }
+    Ok(())
+}
