@@ -23,6 +23,12 @@ FitInputs bytes n = (length bytes ≡ (n + 7) / 8) × AllWithin (λ bit. bit ≡
 abbrev pub input_bits : Word → ℕ → List Bool
 input_bits word n = take n (low (hex_bytes word))
 
+-- the word fits n inputs, and these are the n bits
+pub record IsInputOf (word : Word) (n : ℕ) (bits : List Bool) : Type 0 where
+  pub fit : FitInputs (hex_bytes word) n
+  pub bits_are : bits ≡ input_bits word n
+  pub count : length bits ≡ n
+
 -- The printed line of some bits: bytes that begin with them, lowest first, and end with fewer than eight zeros more,
 -- in lower-case hexadecimal, and a line feed.
 abbrev pub IsReport : List Bool → List ℕ → Type 0

@@ -1,9 +1,9 @@
 -- A bit as two shares.
-use Rattle.std.specs.Prelude.{ℕ, ◌+◌, Bool, List, map, sum_by}
+use Rattle.std.specs.Prelude.{ℕ, ◌+◌, Bool, List, map}
 use Rattle.mask_circuit.specs.Value.{xor}
 use Rattle.mask_circuit.specs.declared.gates.Gate.{Gate}
 use Rattle.mask_circuit.specs.declared.gates.Gate.TheVariants.{Zero, One, Xor, Not, And, Ref}
-use Rattle.mask_circuit.specs.Netlist.{Netlist}
+use Rattle.mask_circuit.specs.Netlist.{Netlist, product_count, refresh_count}
 use Rattle.mask_run.specs.declared.evaluation.Shared.{Shared}
 
 -- the bit that is shared
@@ -22,6 +22,6 @@ coins_of (Not u) = 0
 coins_of (And u v) = 1
 coins_of (Ref u) = 1
 
--- how many random bits an evaluation takes: one for each input, and those of the gates
+-- how many random bits an evaluation takes: one for each input, product and refresh
 abbrev pub coin_count : Netlist → ℕ
-coin_count c = c.inputs + sum_by coins_of c.gates
+coin_count c = c.inputs + product_count c + refresh_count c

@@ -141,6 +141,13 @@ fn run_gates(
     Ok(())
 }
 
+/// How many coins an evaluation takes.
+pub fn coin_count(circuit: &Circuit) -> usize
+    ensures { result ≡ coin_count circuit.now }
+{
+    circuit.inputs() as usize + circuit.products() as usize + circuit.refreshes() as usize
+}
+
 /// The output bits of the circuit on these inputs, evaluated on two shares of each value. The coins share the inputs
 /// first, and then go to the products and refreshes in order.
 pub fn evaluate(

@@ -5,20 +5,15 @@ ghost use Rattle.std.specs.List.{AllWithin};
 ghost use Rattle.hex.specs.Hex.{encode_lower};
 ghost use Rattle.mask_words.specs.WordTests.{is_hex_text};
 ghost use Rattle.mask_bits.specs.Reading.{low};
-ghost use Rattle.mask_run.specs.Hexadecimal.{hex_bytes, FitInputs, input_bits, IsReport};
+ghost use Rattle.mask_run.specs.Hexadecimal.{hex_bytes, FitInputs, IsInputOf, IsReport};
 
 use mask_bits::{Bits, bits_low_first, bytes_of_low};
 use std::alloc::{AllocError, Global};
 
 /// The bits that `word` names for a circuit with so many inputs, where they fit it.
-pub fn input_bits(
-    alloc: Global,
-    word: &str,
-    inputs: u32,
-) -> Result<Option<Bits>, AllocError>
+pub fn input_bits(alloc: Global, word: &str, inputs: u32) -> Result<Option<Bits>, AllocError>
     requires { IsTrue (is_hex_text word.now) }
-    ensures { IfOk result (λ found. MatchOption found (FitInputs (hex_bytes word.now) inputs → ⊥)
-        (λ bits. FitInputs (hex_bytes word.now) inputs × (bits ≡ input_bits word.now inputs))) }
+    ensures { IfOk result (λ found. MatchOption found (FitInputs (hex_bytes word.now) inputs → ⊥) (IsInputOf word.now inputs)) }
 {
     let bytes = hex_bytes(alloc, word)?;
     let inputs = inputs as usize;
@@ -59,7 +54,8 @@ fn are_zeros_from(bits: &Bits, start: usize) -> bool
 
 fn first_bits(alloc: Global, bits: &Bits, count: usize) -> Result<Bits, AllocError>
     requires { count ≤ length bits.now }
-    ensures { IfOk result (λ first. first ≡ take count bits.now) }
+    ensures bits { IfOk result (λ first. first ≡ take count bits.now) }
+    ensures count { IfOk result (λ first. length first ≡ count) }
 {
     let mut first = Bits::new(alloc);
     for k in 0..count {

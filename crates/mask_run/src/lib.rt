@@ -1,7 +1,13 @@
 //! The command `mask`: one call that reads, evaluates and writes.
 #![tactic(auto)]
 
+mod command;
 mod drawing;
 mod evaluation;
+mod finishing;
 mod hexadecimal;
+mod reading;
+mod status;
 
+pub use command::mask_main;
+pub use status::{Status, status_number, status_text};

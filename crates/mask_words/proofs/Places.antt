@@ -15,8 +15,8 @@ not_below ws p q at_p at_q h =
 pub refused_at_one_place : (ws : List Word) (p q : ℕ) → IsRefused ws p → IsRefused ws q → p ≡ q
 refused_at_one_place ws p q at_p at_q =
     elim (cases_order p q) [
-      inl same ↦ same
-    | inr differ ↦ elim differ [ inl below ↦ absurd (not_below ws p q at_p at_q below) | inr above ↦ absurd (not_below ws q p at_q at_p above) ]
+      | inl same ↦ same
+      | inr differ ↦ elim differ [ inl below ↦ absurd (not_below ws p q at_p at_q below) | inr above ↦ absurd (not_below ws q p at_q at_p above) ]
     ]
 
 -- the words of `eval` are five, and the last is in hexadecimal

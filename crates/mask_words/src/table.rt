@@ -111,5 +111,4 @@ fn order_of(word: &str) -> u32
 /// Words are refused at one place, and those of a job at none.
 pub fn words_have_one_answer()
     ensures { HaveOneAnswer }
-{
-}
+{}

@@ -4,6 +4,6 @@ use Rattle.mask_run.proofs.evaluation.share_inputs.Given as goal
 
 abbrev pub invariant-loop-k : goal.invariant-loop-k
 invariant-loop-k l = record {
-    values : bits_of l.values.items ≡ take l.k l.inputs;
-    spent : l.coins.left + l.k ≡ l.initial.coins.left
-  }
+  values : bits_of l.values.items ≡ take l.k l.inputs;
+  spent : l.coins.left + l.k ≡ l.initial.coins.left;
+}

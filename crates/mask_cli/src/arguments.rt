@@ -1,0 +1,36 @@
+//! The words of the command line.
+
+ghost use Rattle.std.specs.Prelude.{◌≤◌, length};
+
+use mask_words::{MAX_WORDS, Words};
+use std::alloc::{AllocError, Global};
+use std::env::{Env, FillError};
+
+/// The words behind the program's name, at most `MAX_WORDS` of them. One that isn't UTF-8 becomes the empty word.
+pub fn read_words_of(rt: &impl Env, alloc: Global) -> Result<Words, AllocError> {
+    let mut words = Words::new(alloc);
+    for place in 1..=MAX_WORDS {
+        let Some(word) = argument(rt, alloc, place)? else {
+            break;
+        };
+        words.push(std::str::from_utf8(&word).unwrap_or(""))?;
+    }
+    Ok(words)
+}
+
+// The bytes of an argument, where there is one at this place. The buffer is doubled until they fit.
+fn argument(rt: &impl Env, alloc: Global, place: usize) -> Result<Option<Vec<u8>>, AllocError> {
+    for doublings in 0..24u32 {
+        let mut buffer = vec![in alloc; 0u8; 4096usize << doublings]?;
+        match rt.arg(place, &mut buffer) {
+            Ok(length) => {
+                buffer.truncate(length);
+                return Ok(Some(buffer));
+            }
+            Err(FillError::NotPresent) => return Ok(None),
+            Err(FillError::TooLong) => {}
+        }
+    }
+    // No system hands over an argument of so many bytes.
+    Err(AllocError)
+}

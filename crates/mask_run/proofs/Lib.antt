@@ -1,0 +1,4 @@
+pub mod Counting
+pub mod Evaluating
+pub mod TextLaws
+pub mod Told

@@ -1,0 +1,96 @@
+//! The top call.
+
+ghost use Rattle.std.specs.Prelude.{◌≡◌, ℕ, ◌≤◌, [], List, Some, IsTrue};
+ghost use Rattle.mask_io.specs.Outside.{Rose, NeverFalls};
+ghost use Rattle.mask_words.specs.WordTests.{Word, is_hex_text};
+ghost use Rattle.mask_words.specs.Jobs.{IsJob, IsRefused, word_at};
+ghost use Rattle.mask_words.specs.declared.table.Job.TheVariants.{Eval};
+ghost use Rattle.mask_run.specs.Promise.{Outside, EvalEnds, EvalAnswers, ComesFromReading, ComesBeforeWriting};
+
+use crate::finishing::finish;
+use crate::reading::prepare;
+use crate::status::Status;
+use mask_io::{Entropy, Sink, Source};
+use mask_words::{BadWords, Job, Words, read_words};
+use std::alloc::Global;
+
+/// `eval`: reads a circuit from the input, evaluates it on the bits of `hex`, and writes its output bits.
+fn eval<S: Source, E: Entropy, O: Sink>(
+    alloc: Global,
+    hex: &str,
+    input: &mut S,
+    tape: &mut E,
+    out: &mut O,
+) -> Status
+    requires { IsTrue (is_hex_text hex.now) }
+    ensures ends { (text : List ℕ) → S.left input.old ≡ Some text → EvalEnds text hex.now
+        (record {
+          tape_before = E.left tape.old;
+          tape_after = E.left tape.new;
+          wanted = E.wanted tape.new;
+          out_before = O.written out.old;
+          out_after = O.written out.new;
+        }) result }
+    ensures answers { (text : List ℕ) → S.left input.old ≡ Some text → EvalAnswers text hex.now result }
+    ensures all_read { result ≡ Status.Done → (text : List ℕ) → S.left input.old ≡ Some text → S.left input.new ≡ Some [] }
+    ensures read_fault { result ≡ Status.ReadFault → Rose (S.faults input.old) (S.faults input.new) }
+    ensures tape_fault { result ≡ Status.TapeFault → Rose (E.faults tape.old) (E.faults tape.new) }
+    ensures write_fault { result ≡ Status.WriteFault → Rose (O.faults out.old) (O.faults out.new) }
+    ensures undrawn { ComesFromReading result → tape.new ≡ tape.old }
+    ensures unwritten { ComesBeforeWriting result → out.new ≡ out.old }
+{
+    match prepare(alloc, hex, input) {
+        Ok(prepared) => finish(alloc, &prepared, tape, out),
+        Err(status) => status,
+    }
+}
+
+/// Does what the words ask for.
+///
+/// Words that are no job are refused before anything is read. `eval` reads a circuit text from `input`, evaluates it on
+/// two shares of each bit with coins from `tape`, and writes the output bits to `out`. `keys` is left as it was.
+pub fn mask_main<K: Source, S: Source, E: Entropy, O: Sink>(
+    alloc: Global,
+    words: &Words,
+    keys: &mut K,
+    input: &mut S,
+    tape: &mut E,
+    out: &mut O,
+) -> Status
+    // Words that are no job: the place, and nothing is touched.
+    ensures refused { (place : ℕ) → IsRefused words.now place → (result ≡ Status.BadWords place)
+        × (input.new ≡ input.old) × (tape.new ≡ tape.old) × (out.new ≡ out.old) }
+
+    // `eval`: what each status says, and when each answer comes.
+    ensures eval_ends { (order : ℕ) (text : List ℕ) → IsJob words.now (Eval order) → S.left input.old ≡ Some text →
+        EvalEnds text (word_at words.now 5)
+        (record {
+          tape_before = E.left tape.old;
+          tape_after = E.left tape.new;
+          wanted = E.wanted tape.new;
+          out_before = O.written out.old;
+          out_after = O.written out.new;
+        }) result }
+    ensures eval_answers { (order : ℕ) (text : List ℕ) → IsJob words.now (Eval order) → S.left input.old ≡ Some text →
+        EvalAnswers text (word_at words.now 5) result }
+    ensures all_read { result ≡ Status.Done → (text : List ℕ) → S.left input.old ≡ Some text → S.left input.new ≡ Some [] }
+
+    // A fault comes only where the count of its object rose.
+    ensures read_fault { result ≡ Status.ReadFault → Rose (S.faults input.old) (S.faults input.new) }
+    ensures tape_fault { result ≡ Status.TapeFault → Rose (E.faults tape.old) (E.faults tape.new) }
+    ensures write_fault { result ≡ Status.WriteFault → Rose (O.faults out.old) (O.faults out.new) }
+
+    // What stays as it was.
+    ensures keys { keys.new ≡ keys.old }
+    ensures undrawn { ComesFromReading result → tape.new ≡ tape.old }
+    ensures unwritten { ComesBeforeWriting result → out.new ≡ out.old }
+{
+    let _untouched = keys;
+    let job = match read_words(words) {
+        Ok(job) => job,
+        Err(BadWords { place }) => return Status::BadWords { place },
+    };
+    match job {
+        Job::Eval { .. } => eval(alloc, words.word(4), input, tape, out),
+    }
+}

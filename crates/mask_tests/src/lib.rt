@@ -1,0 +1,7 @@
+//! Tests of the top call, in a crate of their own: what they prove again is only that each call is safe.
+#![tactic(auto)]
+
+#[cfg(test)]
+mod evaluation;
+#[cfg(test)]
+mod runs;
