@@ -9,8 +9,8 @@ use std::env::{Env, FillError};
 /// The words behind the program's name, at most `MAX_WORDS` of them. One that isn't UTF-8 becomes the empty word.
 pub fn read_words_of(rt: &impl Env, alloc: Global) -> Result<Words, AllocError> {
     let mut words = Words::new(alloc);
-    for place in 1..=MAX_WORDS {
-        let Some(word) = argument(rt, alloc, place)? else {
+    for read in 0..MAX_WORDS {
+        let Some(word) = argument(rt, alloc, read + 1)? else {
             break;
         };
         words.push(std::str::from_utf8(&word).unwrap_or(""))?;
