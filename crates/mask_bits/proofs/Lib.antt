@@ -2,3 +2,4 @@ pub mod Numbers
 pub mod Bytes
 pub mod Places
 pub mod Exchange
+mod Examples
