@@ -1,10 +1,10 @@
 -- From what reading and finishing come to, to what `eval` promises.
-use Rattle.std.proofs.Common.{◌≡◌, ℕ, Bool, List, [], ◌∷◌, refl, sym, ap, subst, inl, inr, arith, ◌∙◌}
+use Rattle.std.proofs.Common.{◌⊎◌, ◌≡◌, ℕ, Bool, List, [], ◌∷◌, refl, sym, ap, subst, inl, inr, arith, ◌∙◌}
 use Rattle.mask_circuit.specs.Netlist.{Netlist}
 use Rattle.mask_circuit.specs.Value.{plain}
 use Rattle.mask_text.specs.declared.errors.Reason.{Reason}
 use Rattle.std.specs.declared.option.Option.{Option}
-use Rattle.std.proofs.Common.{unwrap_or}
+use Rattle.std.proofs.Common.{◌⊎◌, unwrap_or}
 use Rattle.mask_text.specs.Faults.{Fault, fault_at}
 use Rattle.mask_words.specs.WordTests.{Word}
 use Rattle.mask_run.specs.declared.status.Status.{Status}
@@ -110,3 +110,21 @@ module _ (text : List ℕ) (hex : Word) where
     misfit = λ other. inr (inr (inl refl));
     fit = λ d is. inr (inr (inr (inr (inl refl))));
   }
+
+-- of the answers where HEX fits, the faults are left out
+pub fit-without_faults : (text : List ℕ) (hex : Word) (c : Netlist) (status : Status) → EvalAnswers text hex status → IsFit text hex c →
+    (status ≡ ReadFault → ⊥) → (status ≡ TapeFault → ⊥) → (status ≡ WriteFault → ⊥) → (status ≡ Done) ⊎ (status ≡ NoMemory)
+fit-without_faults text hex c status answers is no_read no_tape no_write =
+    elim (answers.fit c is) [
+      | inl done ↦ inl done
+      | inr others ↦ elim others [
+        | inl read ↦ absurd (no_read read)
+        | inr others ↦ elim others [
+          | inl tape ↦ absurd (no_tape tape)
+          | inr others ↦ elim others [
+            | inl write ↦ absurd (no_write write)
+            | inr last ↦ elim last [ inl memory ↦ inr memory | inr none ↦ absurd none ]
+          ]
+        ]
+      ]
+    ]

@@ -1,11 +1,13 @@
 //! The top call.
 
-ghost use Rattle.std.specs.Prelude.{◌≡◌, ℕ, ◌≤◌, [], List, Some, IsTrue};
+ghost use Rattle.std.specs.Prelude.{◌≡◌, ◌⊎◌, ℕ, ◌≤◌, [], List, Some, IsTrue};
 ghost use Rattle.mask_io.specs.Outside.{Rose, NeverFalls};
+ghost use Rattle.mask_circuit.specs.Netlist.{Netlist};
 ghost use Rattle.mask_words.specs.WordTests.{Word, is_hex_text};
 ghost use Rattle.mask_words.specs.Jobs.{IsJob, IsRefused, word_at};
 ghost use Rattle.mask_words.specs.declared.table.Job.TheVariants.{Eval};
-ghost use Rattle.mask_run.specs.Promise.{Outside, EvalEnds, EvalAnswers, ComesFromReading, ComesBeforeWriting};
+ghost use Rattle.mask_run.specs.Promise.{Outside, Stands, IsFit, EvalEnds, EvalAnswers, ComesFromReading, ComesBeforeWriting};
+ghost use Rattle.mask_run.specs.Shared.{coin_count};
 
 use crate::finishing::finish;
 use crate::reading::prepare;
@@ -36,6 +38,8 @@ fn eval<S: Source, E: Entropy, O: Sink>(
     ensures read_fault { result ≡ Status.ReadFault → Rose (S.faults input.old) (S.faults input.new) }
     ensures tape_fault { result ≡ Status.TapeFault → Rose (E.faults tape.old) (E.faults tape.new) }
     ensures write_fault { result ≡ Status.WriteFault → Rose (O.faults out.old) (O.faults out.new) }
+    ensures wants { result ≡ Status.TapeFault → 1 ≤ E.wanted tape.new }
+    ensures idle { (text : List ℕ) (c : Netlist) → S.left input.old ≡ Some text → Stands text c → coin_count c ≡ 0 → tape.new ≡ tape.old }
     ensures undrawn { ComesFromReading result → tape.new ≡ tape.old }
     ensures unwritten { ComesBeforeWriting result → out.new ≡ out.old }
 {
@@ -79,6 +83,17 @@ pub fn mask_main<K: Source, S: Source, E: Entropy, O: Sink>(
     ensures read_fault { result ≡ Status.ReadFault → Rose (S.faults input.old) (S.faults input.new) }
     ensures tape_fault { result ≡ Status.TapeFault → Rose (E.faults tape.old) (E.faults tape.new) }
     ensures write_fault { result ≡ Status.WriteFault → Rose (O.faults out.old) (O.faults out.new) }
+    ensures wants { result ≡ Status.TapeFault → 1 ≤ E.wanted tape.new }
+
+    // A circuit that HEX fits is evaluated, unless an object fails or memory is wanting.
+    ensures complete { (order : ℕ) (text : List ℕ) (c : Netlist) → IsJob words.now (Eval order) → S.left input.old ≡ Some text →
+        IsFit text (word_at words.now 5) c → (Rose (S.faults input.old) (S.faults input.new) → ⊥) →
+        (Rose (E.faults tape.old) (E.faults tape.new) → ⊥) → (Rose (O.faults out.old) (O.faults out.new) → ⊥) →
+        (result ≡ Status.Done) ⊎ (result ≡ Status.NoMemory) }
+
+    // A tape of which nothing is wanted isn't asked.
+    ensures idle { (order : ℕ) (text : List ℕ) (c : Netlist) → IsJob words.now (Eval order) → S.left input.old ≡ Some text →
+        Stands text c → coin_count c ≡ 0 → tape.new ≡ tape.old }
 
     // What stays as it was.
     ensures keys { keys.new ≡ keys.old }

@@ -34,6 +34,7 @@ pub fn finish<E: Entropy, O: Sink>(
         }) result }
     ensures tape_fault { result ≡ Status.TapeFault → Rose (E.faults tape.old) (E.faults tape.new) }
     ensures write_fault { result ≡ Status.WriteFault → Rose (O.faults out.old) (O.faults out.new) }
+    ensures idle { coin_count prepared.now.circuit ≡ 0 → tape.new ≡ tape.old }
     ensures unwritten { ComesBeforeWriting result → out.new ≡ out.old }
     ensures tape_never_falls { NeverFalls (E.faults tape.old) (E.faults tape.new) }
     ensures out_never_falls { NeverFalls (O.faults out.old) (O.faults out.new) }

@@ -1,5 +1,6 @@
 use Rattle.std.proofs.Common.{refl, ap}
 use Rattle.mask_words.proofs.Places.{refused_at_one_place}
+use Rattle.mask_run.proofs.Evaluating.{fit-without_faults}
 use Rattle.mask_run.specs.declared.status.Status.TheVariants.{BadWords}
 use Rattle.mask_run.proofs.command.mask_main.Goals as goal
 
@@ -18,3 +19,11 @@ returns-clause-refused g c place is = absurd (is.no_job c.in-Ok.job c.in-Ok.ensu
 
 pub returns-clause-eval_ends : goal.returns-clause-eval_ends
 returns-clause-eval_ends g c order text job told = rw c.word.ensures at (c.eval.ensures.ends text told)
+
+pub returns-in-Err-clause-complete : goal.returns-in-Err-clause-complete
+returns-in-Err-clause-complete g c order text d job told = absurd (c.in-Err.ensures.refused.no_job _ job)
+
+pub returns-clause-complete : goal.returns-clause-complete
+returns-clause-complete g c order text d job told fit no_read no_tape no_write =
+    fit-without_faults text _ d _ (rw c.word.ensures at (c.eval.ensures.answers text told)) fit
+    (λ e. no_read (c.eval.ensures.read_fault e)) (λ e. no_tape (c.eval.ensures.tape_fault e)) (λ e. no_write (c.eval.ensures.write_fault e))
