@@ -51,7 +51,7 @@ refresh_wires : gate_wires bits 3 (Ref 0) (all_listed ((true ∷ false ∷ false
 unfolding all_listed listed
 refresh_wires = refl
 
--- Needs of gadgets: in a product on three shares the partial sum of row 0 and v of the pair (0, 1) ..
+-- Needs of gadgets: in a product on three shares the first partial sum of its first row and v of the pair (0, 1) ..
 product_left_need : members 3 (left_need (local (product_names 3) (18 ∷ 10 ∷ []))) ≡ true ∷ false ∷ false ∷ []
 unfolding members local
 product_left_need = refl
@@ -104,8 +104,8 @@ refreshed_product_need : map (λ v. members 2 (need refreshed_product 2 (8 ∷ [
 unfolding refreshed_product members
 refreshed_product_need = refl
 
--- A product of two inputs on three shares: a partial sum of row 0 and v of the pair (0, 1); then the last partial sum of
--- row 0, an output share.
+-- A product of two inputs on three shares: the first partial sum of its first row and v of the pair (0, 1);
+-- then the last partial sum of that row, an output share.
 lone_product : Netlist
 lone_product = record { inputs = 2; gates = And 0 1 ∷ []; outputs = 2 ∷ [] }
 

@@ -1,7 +1,7 @@
 -- A circuit with its plain groups is a labelled circuit.
-use Rattle.std.proofs.Common.{◌≡◌, ℕ, zero, suc, ◌≤◌, true, List, [], ◌∷◌, length, codes, refl, arith}
+use Rattle.std.proofs.Common.{◌≡◌, ℕ, zero, suc, ◌≤◌, true, List, [], length, codes, refl, arith}
 use Rattle.mask_circuit.specs.Netlist.{Netlist, IsCircuit}
-use Rattle.mask_circuit.specs.Labels.{NamedGroup, LabelledNetlist, IsLabelled, AreGroups, sizes, is_name, is_taken, one_group, with_plain_groups}
+use Rattle.mask_circuit.specs.Labels.{NamedGroup, IsLabelled, AreGroups, sizes, is_name, is_taken, one_group}
 
 sizes-one_group : (name : List ℕ) (n : ℕ) → sizes (one_group name n) ≡ n
 sizes-one_group name zero = refl

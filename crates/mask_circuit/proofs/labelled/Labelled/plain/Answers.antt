@@ -1,4 +1,4 @@
-use Rattle.std.proofs.Common.{◌≡◌, ℕ, List, length, codes, ap, ◌∙◌}
+use Rattle.std.proofs.Common.{ℕ, List, length, codes, ap, ◌∙◌}
 use Rattle.mask_circuit.specs.Labels.{one_group}
 use Rattle.mask_circuit.proofs.Plain.{IsLabelled-plain}
 use Rattle.mask_circuit.proofs.labelled.Labelled.plain.Goals as goal
