@@ -33,6 +33,10 @@ operands_below c v n are le = go (gate_at c v) refl
     go None e = tt
     go (Some g) e = OperandsBelow-more v n g le (gate_at_operands c v g are e)
 
+-- so they are places of a list that has one for each value
+pub operands_in : (c : Netlist) (places v : ℕ) (g : Option Gate) → IsCircuit c → v < value_count c → places ≡ value_count c → g ≡ gate_at c v → HasOperandsBelow places g
+operands_in c places v g is within size gate = rw (size, gate) (operands_below c v (value_count c) is.gates (omega arith))
+
 -- marks are passed downwards
 IsPassedTo-below : (g : Option Gate) (u v : ℕ) → HasOperandsBelow v g → IsPassedTo u g → u < v
 IsPassedTo-below None u v below to = absurd to
@@ -225,7 +229,7 @@ lowest_old c left right nl nr v bit m is on_left on_right at old lt = record {
   lowest = λ j s from l r. elim (cases_eq s v) [
     | inl e ↦
         let le = lowest_here c left right nl nr v bit j is on_left on_right at
-            (subst (λ (x : ℕ). Meets c left j x) e l) (subst (λ (x : ℕ). Meets c right j x) e r) in
+        (subst (λ (x : ℕ). Meets c left j x) e l) (subst (λ (x : ℕ). Meets c right j x) e r) in
         inl (omega arith)
     | inr ne ↦ old.lowest j s (omega arith) l r
   ];
@@ -308,8 +312,3 @@ HasCome-old c left right nl nr nl' nr' v n bit g m next is visit old lt =
       on_right = passed_further c right nr nr' v n g next is old.within visit.gate visit.right old.on_right;
       lowest = lowest_old c left right nl nr v bit m is on_left on_right at lowest lt;
     }
-
--- the gate's operands are places of the marks
-pub HasCome-operands : (c : Netlist) (words : List ℕ) (v : ℕ) (g : Option Gate) → IsCircuit c → v < value_count c → length words ≡ value_count c →
-    g ≡ gate_at c v → HasOperandsBelow (length words) g
-HasCome-operands c words v g is within size gate = rw (size, gate) (operands_below c v (value_count c) is.gates (omega arith))

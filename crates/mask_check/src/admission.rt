@@ -1,7 +1,7 @@
 //! Circuits that are accepted.
 
 ghost use Rattle.std.specs.Prelude.{◌≡◌, ◌+◌, ◌≤◌, IfOk, IfErr};
-ghost use Rattle.mask_circuit.specs.Netlist.{Netlist};
+ghost use Rattle.mask_circuit.specs.Netlist.{Netlist, IsCircuit};
 ghost use Rattle.mask_circuit.specs.Acceptance.{IsAccepted};
 ghost use Rattle.mask_check.specs.Admission.{IsAdmitted, IsRefusal};
 ghost use Rattle.mask_check.specs.Costs.{most_steps};
@@ -40,6 +40,7 @@ impl Admitted {
     /// The circuit.
     pub fn circuit(&self) -> &Circuit
         ensures same { result.now ≡ self.now }
+        ensures circuit { IsCircuit self.now }
         ensures accepted { IsAccepted self.now }
         ensures secure { IsNIAtEachOrder self.now }
     {

@@ -1,9 +1,8 @@
 //! Outputs that stand by themselves.
 
-ghost use Rattle.std.specs.Prelude.{◌≡◌, ℕ, ◌<◌, ◌↔◌, length, slice_set, IfOk, IsTrue, replicate};
-ghost use Rattle.std.specs.Prelude.{false};
-ghost use Rattle.mask_circuit.specs.Netlist.{IsCircuit, value_count};
-ghost use Rattle.mask_check.specs.Fencing.{FencesBefore, FlagsOperands, IsFlagged, IsGapOrNone, IsRefresh, with_operands};
+ghost use Rattle.std.specs.Prelude.{◌≡◌, ◌↔◌, length, IfOk, IsTrue};
+ghost use Rattle.mask_circuit.specs.Netlist.{value_count};
+ghost use Rattle.mask_check.specs.Fencing.{FlagsOperands, IsGapOrNone, IsRefresh, with_operands};
 ghost use Rattle.mask_check.specs.Marks.{HasOperandsBelow};
 
 use mask_circuit::{Circuit, Gate};
@@ -41,12 +40,13 @@ fn is_refresh(gate: Option<Gate>) -> bool
     matches!(gate, Some(Gate::Ref(_)))
 }
 
-/// The lowest place of an output that isn't a refresh or has a flag. Each output that is passed gets a flag, so one array
-/// serves for the operands and for the outputs at earlier places.
+/// The lowest gap, found with a flag for each value, none of which is set yet. Flags stand for the operands of gates and for
+/// the outputs at earlier places, so that an output is a fence where it is a refresh without a flag.
 fn find_gap(circuit: &Circuit, flags: &mut [bool]) -> Option<u32>
-    requires { FencesBefore circuit.now 0 flags.old }
+    requires { FlagsOperands circuit.now 0 flags.old }
     ensures { IsGapOrNone circuit.now result }
 {
+    flag_all_operands(circuit, flags);
     for (place, output) in circuit.outputs().iter().enumerate() {
         let value = *output;
         if !is_refresh(circuit.gate_at(value)) || flags[value as usize] {
@@ -62,6 +62,5 @@ pub(crate) fn lowest_gap(alloc: Global, circuit: &Circuit) -> Result<Option<u32>
     ensures { IfOk result (λ gap. IsGapOrNone circuit.now gap) }
 {
     let mut flags = vec![in alloc; false; circuit.values() as usize]?;
-    flag_all_operands(circuit, &mut flags);
     Ok(find_gap(circuit, &mut flags))
 }

@@ -13,7 +13,7 @@ mod strong;
 mod verdicts;
 
 pub use admission::{AdmitError, Admitted, admit};
-pub use strong::{Strong, StrengthenError, strengthen};
+pub use strong::{StrengthenError, Strong, strengthen};
 pub use verdicts::{Verdict, check};
 
 #[cfg(test)]

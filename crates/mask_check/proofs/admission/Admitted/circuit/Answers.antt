@@ -1,8 +1,8 @@
-use Rattle.std.proofs.Common.{subst}
-use Rattle.mask_circuit.specs.Netlist.{Netlist}
-use Rattle.mask_check.specs.Admission.{IsAdmitted}
 use Rattle.mask_check.proofs.Judging.{accepted_secure}
 use Rattle.mask_check.proofs.admission.Admitted.circuit.Goals as goal
+
+pub returns-clause-circuit : goal.returns-clause-circuit
+returns-clause-circuit c = (rw c.self.view_is at c.self.invariant).circuit
 
 pub returns-clause-accepted : goal.returns-clause-accepted
 returns-clause-accepted c = (rw c.self.view_is at c.self.invariant).accepted
