@@ -8,7 +8,7 @@ use Rattle.std.proofs.Common.{◌⊎◌, unwrap_or}
 use Rattle.mask_text.specs.Faults.{Fault, fault_at}
 use Rattle.mask_words.specs.WordTests.{Word}
 use Rattle.mask_run.specs.declared.status.Status.{Status}
-use Rattle.mask_run.specs.declared.status.Status.TheVariants.{Done, BadWords, BadText, TooLong, ReadFault, TapeFault, WriteFault, NoMemory}
+use Rattle.mask_run.specs.declared.status.Status.TheVariants.{Done, Refused, BadWords, BadText, TooLong, ReadFault, TapeFault, WriteFault, NoMemory}
 use Rattle.mask_run.specs.Hexadecimal.{hex_bytes, FitInputs, IsReport}
 use Rattle.mask_run.specs.Shared.{coin_count}
 use Rattle.mask_run.specs.Promise.{Outside, HasFault, IsFit, IsMisfit, IsEvalReport, NothingDrawn, EvalEnds, EvalAnswers, OneOf}
@@ -26,6 +26,7 @@ module _ (text : List ℕ) (hex : Word) (c : Netlist) (inputs : List Bool) (prep
 
   pub EvalEnds-finished : (status : Status) → Finishes (plain c inputs) (coin_count c) o status → EvalEnds text hex o status
   EvalEnds-finished Done h = (c, h.0, fit, reports h.0 h.1, h.2, h.3)
+  EvalEnds-finished (Refused product source) h = absurd h
   EvalEnds-finished (BadWords place) h = absurd h
   EvalEnds-finished (BadText line reason) h = absurd h
   EvalEnds-finished (TooLong limit) h = absurd h
@@ -37,6 +38,7 @@ module _ (text : List ℕ) (hex : Word) (c : Netlist) (inputs : List Bool) (prep
   -- the statuses with which a run that was prepared ends
   finished_by : (status : Status) → Finishes (plain c inputs) (coin_count c) o status → OneOf status (Done ∷ ReadFault ∷ TapeFault ∷ WriteFault ∷ NoMemory ∷ [])
   finished_by Done h = inl refl
+  finished_by (Refused product source) h = absurd h
   finished_by (BadWords place) h = absurd h
   finished_by (BadText line reason) h = absurd h
   finished_by (TooLong limit) h = absurd h
@@ -61,6 +63,7 @@ module _ (text : List ℕ) (hex : Word) (c : Netlist) (inputs : List Bool) (prep
 module _ (text : List ℕ) (hex : Word) where
   pub EvalEnds-refused : (o : Outside) (status : Status) → Refuses text hex status → NothingDrawn o → EvalEnds text hex o status
   EvalEnds-refused o Done h same = absurd h
+  EvalEnds-refused o (Refused product source) h same = absurd h
   EvalEnds-refused o (BadWords place) h same = h
   EvalEnds-refused o (BadText line reason) h same = h
   EvalEnds-refused o (TooLong limit) h same = h
@@ -70,7 +73,7 @@ module _ (text : List ℕ) (hex : Word) where
   EvalEnds-refused o NoMemory h same = inl same
 
   -- a text has one first fault
-  same_fault : (line line' : ℕ) (reason reason' : Reason) → HasFault text line reason → HasFault text line' reason' → BadText line reason ≡ BadText line' reason'
+  pub same_fault : (line line' : ℕ) (reason reason' : Reason) → HasFault text line reason → HasFault text line' reason' → BadText line reason ≡ BadText line' reason'
   same_fault line line' reason reason' h k =
       let same = ap (λ (found : Option Fault). unwrap_or found (fault_at line reason)) (sym h.1 ∙ k.1) in
       ap (λ (f : Fault). BadText f.line f.reason) same
@@ -78,6 +81,7 @@ module _ (text : List ℕ) (hex : Word) where
   -- a text that stands for a circuit has no fault, is not too long, and fits HEX or doesn't
   pub EvalAnswers-refused : (status : Status) → Refuses text hex status → EvalAnswers text hex status
   EvalAnswers-refused Done h = absurd h
+  EvalAnswers-refused (Refused product source) h = absurd h
   EvalAnswers-refused (BadWords place) h = record {
     too_long = λ long. let within = h.1.1.within in absurd (omega arith);
     bad_text = λ line reason bad. absurd (text_has_no_fault text h.1.0 (fault_at line reason) h.1.1.is_text bad.1);

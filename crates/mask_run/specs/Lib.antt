@@ -1,3 +1,4 @@
+pub mod Checking
 pub mod Drawing
 pub mod Finishing
 pub mod Hexadecimal
@@ -5,3 +6,5 @@ pub mod Promise
 pub mod Reading
 pub mod Shared
 pub mod Statuses
+pub mod Upgrading
+pub mod Writing

@@ -11,7 +11,7 @@ use Rattle.mask_text.specs.declared.read.TheConstants.{MAX_TEXT}
 use Rattle.mask_text.specs.declared.errors.Reason.{Reason}
 use Rattle.mask_words.specs.WordTests.{Word}
 use Rattle.mask_run.specs.declared.status.Status.{Status}
-use Rattle.mask_run.specs.declared.status.Status.TheVariants.{Done, BadWords, BadText, TooLong, ReadFault, TapeFault, WriteFault, NoMemory}
+use Rattle.mask_run.specs.declared.status.Status.TheVariants.{Done, Refused, BadWords, BadText, TooLong, ReadFault, TapeFault, WriteFault, NoMemory}
 use Rattle.mask_run.specs.Hexadecimal.{hex_bytes, FitInputs, input_bits, IsReport}
 use Rattle.mask_run.specs.Drawing.{bytes_for, Gave}
 use Rattle.mask_run.specs.Shared.{coin_count}
@@ -59,6 +59,7 @@ NothingDrawn o = o.tape_after ≡ o.tape_before
 abbrev pub EvalEnds : List ℕ → Word → Outside → Status → Type 0
 EvalEnds text hex o Done = (c : Netlist) × (line : List ℕ) × IsFit text hex c × IsEvalReport c hex line
     × Appends o.out_before o.out_after line × DrawsFor c o
+EvalEnds text hex o (Refused product source) = ⊥
 EvalEnds text hex o (BadWords place) = (place ≡ 5) × IsMisfit text hex
 EvalEnds text hex o (BadText line reason) = HasFault text line reason
 EvalEnds text hex o (TooLong limit) = (limit ≡ MAX_TEXT) × (MAX_TEXT < length text)
@@ -71,6 +72,7 @@ EvalEnds text hex o NoMemory = NothingDrawn o ⊎ ((c : Netlist) × IsFit text h
 -- a status that comes before the tape is touched
 abbrev pub ComesFromReading : Status → Type 0
 ComesFromReading Done = ⊥
+ComesFromReading (Refused product source) = Unit {0}
 ComesFromReading (BadWords place) = Unit {0}
 ComesFromReading (BadText line reason) = Unit {0}
 ComesFromReading (TooLong limit) = Unit {0}
@@ -79,9 +81,22 @@ ComesFromReading TapeFault = ⊥
 ComesFromReading WriteFault = ⊥
 ComesFromReading NoMemory = ⊥
 
+-- a status of a command that has no tape
+abbrev pub NeedsNoTape : Status → Type 0
+NeedsNoTape Done = Unit {0}
+NeedsNoTape (Refused product source) = Unit {0}
+NeedsNoTape (BadWords place) = Unit {0}
+NeedsNoTape (BadText line reason) = Unit {0}
+NeedsNoTape (TooLong limit) = Unit {0}
+NeedsNoTape ReadFault = Unit {0}
+NeedsNoTape TapeFault = ⊥
+NeedsNoTape WriteFault = Unit {0}
+NeedsNoTape NoMemory = Unit {0}
+
 -- a status with which nothing was written
 abbrev pub ComesBeforeWriting : Status → Type 0
 ComesBeforeWriting Done = ⊥
+ComesBeforeWriting (Refused product source) = Unit {0}
 ComesBeforeWriting (BadWords place) = Unit {0}
 ComesBeforeWriting (BadText line reason) = Unit {0}
 ComesBeforeWriting (TooLong limit) = Unit {0}

@@ -3,10 +3,11 @@ use Rattle.std.specs.Prelude.{ℕ, List, ◌++◌, codes, decimal}
 use Rattle.mask_text.specs.declared.errors.Reason.{Reason}
 use Rattle.mask_text.specs.declared.errors.Reason.TheVariants.{BadHeader, BadLine, UnknownValue, NoEnd, AfterEnd, TooManyValues, BadName}
 use Rattle.mask_run.specs.declared.status.Status.{Status}
-use Rattle.mask_run.specs.declared.status.Status.TheVariants.{Done, BadWords, BadText, TooLong, ReadFault, TapeFault, WriteFault, NoMemory}
+use Rattle.mask_run.specs.declared.status.Status.TheVariants.{Done, Refused, BadWords, BadText, TooLong, ReadFault, TapeFault, WriteFault, NoMemory}
 
 abbrev pub number_of : Status → ℕ
 number_of Done = 0
+number_of (Refused product source) = 1
 number_of (BadWords place) = 2
 number_of (BadText line reason) = 4
 number_of (TooLong limit) = 5
@@ -26,6 +27,7 @@ reason_text BadName = codes "bad-name"
 
 abbrev pub text_of : Status → List ℕ
 text_of Done = codes "done"
+text_of (Refused product source) = codes "refused: product " ++ decimal product ++ codes " source " ++ decimal source
 text_of (BadWords place) = codes "bad words: place " ++ decimal place
 text_of (BadText line reason) = codes "bad text: line " ++ decimal line ++ codes ": " ++ reason_text reason
 text_of (TooLong limit) = codes "too long: limit " ++ decimal limit

@@ -5,13 +5,17 @@ ghost use Rattle.mask_io.specs.Outside.{Rose, NeverFalls};
 ghost use Rattle.mask_circuit.specs.Netlist.{Netlist};
 ghost use Rattle.mask_words.specs.WordTests.{Word, is_hex_text};
 ghost use Rattle.mask_words.specs.Jobs.{IsJob, IsRefused, word_at};
-ghost use Rattle.mask_words.specs.declared.table.Job.TheVariants.{Eval};
+ghost use Rattle.mask_words.specs.declared.table.Job.TheVariants.{Eval, Check, Upgrade};
 ghost use Rattle.mask_run.specs.Promise.{Outside, Stands, IsFit, EvalEnds, EvalAnswers, ComesFromReading, ComesBeforeWriting};
 ghost use Rattle.mask_run.specs.Shared.{coin_count};
+ghost use Rattle.mask_run.specs.Checking.{CheckEnds, CheckAnswers};
+ghost use Rattle.mask_run.specs.Upgrading.{UpgradeEnds, UpgradeAnswers};
 
+use crate::checking::check;
 use crate::finishing::finish;
 use crate::reading::prepare;
 use crate::status::Status;
+use crate::upgrading::upgrade;
 use mask_io::{Entropy, Sink, Source};
 use mask_words::{BadWords, Job, Words, read_words};
 use std::alloc::Global;
@@ -52,7 +56,8 @@ fn eval<S: Source, E: Entropy, O: Sink>(
 /// Does what the words ask for.
 ///
 /// Words that are no job are refused before anything is read. `eval` reads a circuit text from `input`, evaluates it on
-/// two shares of each bit with coins from `tape`, and writes the output bits to `out`. `keys` is left as it was.
+/// two shares of each bit with coins from `tape`, and writes the output bits to `out`. `check` says whether the circuit is
+/// accepted and whether it is strong, and `upgrade` writes it in version 2 of the text. `keys` is left as it was.
 pub fn mask_main<K: Source, S: Source, E: Entropy, O: Sink>(
     alloc: Global,
     words: &Words,
@@ -79,6 +84,16 @@ pub fn mask_main<K: Source, S: Source, E: Entropy, O: Sink>(
         EvalAnswers text (word_at words.now 5) result }
     ensures all_read { result ≡ Status.Done → (text : List ℕ) → S.left input.old ≡ Some text → S.left input.new ≡ Some [] }
 
+    // `check`: what each status says, and when each answer comes.
+    ensures check_ends { (text : List ℕ) → IsJob words.now Check → S.left input.old ≡ Some text →
+        CheckEnds text (O.written out.old) (O.written out.new) result }
+    ensures check_answers { (text : List ℕ) → IsJob words.now Check → S.left input.old ≡ Some text → CheckAnswers text result }
+
+    // `upgrade`: likewise.
+    ensures upgrade_ends { (text : List ℕ) → IsJob words.now Upgrade → S.left input.old ≡ Some text →
+        UpgradeEnds text (O.written out.old) (O.written out.new) result }
+    ensures upgrade_answers { (text : List ℕ) → IsJob words.now Upgrade → S.left input.old ≡ Some text → UpgradeAnswers text result }
+
     // A fault comes only where the count of its object rose.
     ensures read_fault { result ≡ Status.ReadFault → Rose (S.faults input.old) (S.faults input.new) }
     ensures tape_fault { result ≡ Status.TapeFault → Rose (E.faults tape.old) (E.faults tape.new) }
@@ -99,13 +114,17 @@ pub fn mask_main<K: Source, S: Source, E: Entropy, O: Sink>(
     ensures keys { keys.new ≡ keys.old }
     ensures undrawn { ComesFromReading result → tape.new ≡ tape.old }
     ensures unwritten { ComesBeforeWriting result → out.new ≡ out.old }
+    ensures no_tape { IsJob words.now Check ⊎ IsJob words.now Upgrade → tape.new ≡ tape.old }
 {
     let _untouched = keys;
     let job = match read_words(words) {
         Ok(job) => job,
         Err(BadWords { place }) => return Status::BadWords { place },
     };
+    // Each arm returns by itself, so that what it promises stands apart from the others.
     match job {
-        Job::Eval { .. } => eval(alloc, words.word(4), input, tape, out),
+        Job::Eval { .. } => return eval(alloc, words.word(4), input, tape, out),
+        Job::Check => return check(alloc, input, out),
+        Job::Upgrade => return upgrade(alloc, input, out),
     }
 }

@@ -5,7 +5,7 @@ ghost use Rattle.mask_io.specs.Outside.{Rose, NeverFalls};
 ghost use Rattle.mask_words.specs.WordTests.{Word, is_hex_text};
 ghost use Rattle.mask_run.specs.Hexadecimal.{hex_bytes, FitInputs, input_bits};
 ghost use Rattle.mask_run.specs.Promise.{Stands};
-ghost use Rattle.mask_run.specs.Reading.{Refuses, Prepares, ComesFromReadingOrMemory, status_of};
+ghost use Rattle.mask_run.specs.Reading.{Refuses, RefusesText, Prepares, ComesFromReadingOrMemory, status_of};
 
 use crate::hexadecimal::input_bits;
 use crate::status::Status;
@@ -46,9 +46,9 @@ pub fn prepare<S: Source>(alloc: Global, hex: &str, input: &mut S) -> Result<Pre
 }
 
 // A circuit from all that the input has left.
-fn read<S: Source>(alloc: Global, input: &mut S) -> Result<Circuit, Status>
+pub(crate) fn read<S: Source>(alloc: Global, input: &mut S) -> Result<Circuit, Status>
     ensures ok { IfOk result (λ c. (text : List ℕ) → S.left input.old ≡ Some text → Stands text c × (S.left input.new ≡ Some [])) }
-    ensures err { IfErr result (λ status. (text : List ℕ) (hex : Word) → S.left input.old ≡ Some text → Refuses text hex status) }
+    ensures err { IfErr result (λ status. (text : List ℕ) → S.left input.old ≡ Some text → RefusesText text status) }
     ensures reading { IfErr result ComesFromReadingOrMemory }
     ensures read_fault { IsErrOf result Status.ReadFault → Rose (S.faults input.old) (S.faults input.new) }
     ensures never_falls { NeverFalls (S.faults input.old) (S.faults input.new) }
@@ -59,7 +59,7 @@ fn read<S: Source>(alloc: Global, input: &mut S) -> Result<Circuit, Status>
     }
 }
 
-fn status_of(error: TextError) -> Status
+pub(crate) fn status_of(error: TextError) -> Status
     ensures { result ≡ status_of error }
 {
     match error {

@@ -14,6 +14,8 @@ use mask_text::Reason;
 pub enum Status {
     /// The report was written whole.
     Done,
+    /// The circuit isn't accepted: its lowest product whose operands share a source, and their lowest shared source.
+    Refused { product: u32, source: u32 },
     /// The words are no job, at this place counted from 1; or what they name doesn't fit the input.
     BadWords { place: u32 },
     /// The circuit text has a fault, first in this line.
@@ -36,6 +38,7 @@ pub fn status_number(status: &Status) -> u8
 {
     match *status {
         Status::Done => 0,
+        Status::Refused { .. } => 1,
         Status::BadWords { .. } => 2,
         Status::BadText { .. } => 4,
         Status::TooLong { .. } => 5,
@@ -52,6 +55,7 @@ pub fn status_text(status: &Status) -> ArrayString<80>
 {
     match *status {
         Status::Done => said("done"),
+        Status::Refused { product, source } => refused(product, source),
         Status::BadWords { place } => numbered("bad words: place ", u64::from(place)),
         Status::BadText { line, reason } => bad_text(line, reason),
         Status::TooLong { limit } => numbered("too long: limit ", limit),
@@ -78,6 +82,15 @@ fn numbered(words: &str, number: u64) -> ArrayString<80>
 {
     let mut text = said(words);
     text.push_str(Buffer::new().format(number));
+    text
+}
+
+fn refused(product: u32, source: u32) -> ArrayString<80>
+    ensures { result.bytes ≡ codes "refused: product " ++ decimal product ++ codes " source " ++ decimal source }
+{
+    let mut text = numbered("refused: product ", u64::from(product));
+    text.push_str(" source ");
+    text.push_str(Buffer::new().format(source));
     text
 }
 

@@ -109,11 +109,13 @@ fn names_the_object_that_failed(rt: HostRuntime) -> Result<(), Fail> {
 
 #[test]
 fn refuses_words_that_are_no_job(rt: HostRuntime) -> Result<(), Fail> {
-    let cases: [(&[&str], u32); 7] = [
+    let cases: [(&[&str], u32); 9] = [
         (&[], 1),
         (&["k", "t"], 3),
         (&["k", "t", "enc", "des"], 3),
         (&["k", "seed:00", "check"], 2),
+        (&["k", "t", "check", "more"], 4),
+        (&["k", "t", "upgrade", "more"], 4),
         (&["k", "t", "eval", "2", "01"], 4),
         (&["k", "t", "eval", "1", "0"], 5),
         (&["k", "t", "eval", "1", "01", "01"], 6),
@@ -130,6 +132,14 @@ fn refuses_words_that_are_no_job(rt: HostRuntime) -> Result<(), Fail> {
 fn says_how_it_ended(rt: HostRuntime) {
     for (status, number, text) in [
         (Status::Done, 0, "done"),
+        (
+            Status::Refused {
+                product: 4_294_967_295,
+                source: 4_294_967_294,
+            },
+            1,
+            "refused: product 4294967295 source 4294967294",
+        ),
         (Status::BadWords { place: 5 }, 2, "bad words: place 5"),
         (
             Status::BadText {

@@ -1,3 +1,4 @@
 pub mod Matching
+pub mod OneJob
 pub mod Places
 pub mod Trying

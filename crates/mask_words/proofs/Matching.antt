@@ -4,14 +4,14 @@ use Rattle.std.proofs.lemmas.List.{drop_all}
 use Rattle.mask_words.specs.declared.word_tests.Command.TheVariants as commands
 use Rattle.mask_words.specs.declared.word_tests.Test.{Test}
 use Rattle.mask_words.specs.declared.word_tests.Test.TheVariants.{Given, Tape, Named, Order, Hex}
-use Rattle.mask_words.specs.WordTests.{Word, passes}
+use Rattle.mask_words.specs.WordTests.{Word, command_text, passes}
 use Rattle.mask_words.specs.Jobs.{Match, reach}
 
 -- a word that passes
 sample : Test → Word
 sample Given = codes "-"
 sample Tape = codes "-"
-sample (Named commands.Eval) = codes "eval"
+sample (Named c) = command_text c
 sample Order = codes "1"
 sample Hex = codes "-"
 
@@ -20,6 +20,8 @@ unfolding sample
 sample-passes Given = refl
 sample-passes Tape = refl
 sample-passes (Named commands.Eval) = refl
+sample-passes (Named commands.Check) = refl
+sample-passes (Named commands.Upgrade) = refl
 sample-passes Order = refl
 sample-passes Hex = refl
 

@@ -16,10 +16,14 @@ form_at k = get_or FORMS k forms.Eval
 -- each form has a row
 row_of : (f : Form) → (k : ℕ) × (k < length FORMS) × (form_at k ≡ f)
 row_of forms.Eval = (0, lit< tt, refl)
+row_of forms.Check = (1, lit< tt, refl)
+row_of forms.Upgrade = (2, lit< tt, refl)
 
 -- a form has few tests
 few_tests : (f : Form) → length (tests_of f) ≤ 1000000
 few_tests forms.Eval = lit≤ tt
+few_tests forms.Check = lit≤ tt
+few_tests forms.Upgrade = lit≤ tt
 
 -- the first n forms are not that of the words, and none of them reaches farther
 pub record Tried (ws : List Word) (n farthest : ℕ) : Type 0 where

@@ -5,12 +5,14 @@ use Rattle.mask_words.specs.declared.table.Form.{Form}
 use Rattle.mask_words.specs.declared.table.Form.TheVariants as forms
 use Rattle.mask_words.specs.declared.table.Job.{Job}
 use Rattle.mask_words.specs.declared.table.Job.TheVariants as jobs
-use Rattle.mask_words.specs.declared.table.TheConstants.{EVAL}
+use Rattle.mask_words.specs.declared.table.TheConstants.{EVAL, CHECK, UPGRADE}
 use Rattle.mask_words.specs.WordTests.{Word, passes}
 
 -- what the words of a form are tested for, one by one
 abbrev pub tests_of : Form → List Test
 tests_of forms.Eval = EVAL
+tests_of forms.Check = CHECK
+tests_of forms.Upgrade = UPGRADE
 
 -- as many words as tests, and each word passes its test
 abbrev pub Match : List Test → List Word → Type 0
@@ -36,6 +38,8 @@ word_at ws place = slice_index_or ws (place - 1) []
 -- the job of words of that form
 abbrev pub job_of : Form → List Word → Job
 job_of forms.Eval ws = jobs.Eval (order_of (word_at ws 4))
+job_of forms.Check ws = jobs.Check
+job_of forms.Upgrade ws = jobs.Upgrade
 
 -- the words are this job
 abbrev pub IsJob : List Word → Job → Type 0
@@ -52,6 +56,9 @@ pub record IsRefused (ws : List Word) (p : ℕ) : Type 0 where
   pub least : (q : ℕ) → q < p → CouldGoOn ws q
   pub stops : (p ≡ length ws + 1) ⊎ ((p ≤ length ws) × (CouldGoOn ws p → ⊥))
 
--- Words are a job, or are refused at a place, and then at no other.
-abbrev pub HaveOneAnswer : Type 0
-HaveOneAnswer = (ws : List Word) (p q : ℕ) → IsRefused ws p → IsRefused ws q → p ≡ q
+-- Words are one job at most, and are refused at one place at most.
+abbrev pub HaveOneJob : Type 0
+HaveOneJob = (ws : List Word) (a b : Job) → IsJob ws a → IsJob ws b → a ≡ b
+
+abbrev pub HaveOnePlace : Type 0
+HaveOnePlace = (ws : List Word) (p q : ℕ) → IsRefused ws p → IsRefused ws q → p ≡ q

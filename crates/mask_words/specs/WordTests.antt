@@ -4,7 +4,7 @@ use Rattle.std.specs.List.{list_all, starts_with}
 use Rattle.std.specs.Str.{bytes_eq}
 use Rattle.std.specs.Char.{is_ascii_hexdigit}
 use Rattle.mask_words.specs.declared.word_tests.Command.{Command}
-use Rattle.mask_words.specs.declared.word_tests.Command.TheVariants.{Eval}
+use Rattle.mask_words.specs.declared.word_tests.Command.TheVariants.{Eval, Check, Upgrade}
 use Rattle.mask_words.specs.declared.word_tests.Test.{Test}
 use Rattle.mask_words.specs.declared.word_tests.Test.TheVariants.{Given, Tape, Named, Order, Hex}
 
@@ -13,6 +13,8 @@ Word = List ℕ
 
 abbrev pub command_text : Command → Word
 command_text Eval = codes "eval"
+command_text Check = codes "check"
+command_text Upgrade = codes "upgrade"
 
 -- digits of either case
 abbrev pub are_hex_digits : Word → Bool

@@ -3,7 +3,7 @@
 ghost use Rattle.std.specs.Prelude.{◌≡◌, ℕ, ◌+◌, ◌-◌, ◌*◌, ◌<◌, ◌≤◌, List, length, IfOk, IfErr, drop, take};
 ghost use Rattle.std.specs.Prelude.{IsTrue, ◌↔◌};
 ghost use Rattle.mask_words.specs.WordTests.{is_order};
-ghost use Rattle.mask_words.specs.Jobs.{tests_of, reach, Match, order_of, job_of, IsJob, IsRefused, HaveOneAnswer};
+ghost use Rattle.mask_words.specs.Jobs.{tests_of, reach, Match, order_of, job_of, IsJob, IsRefused, HaveOneJob, HaveOnePlace};
 
 use crate::command_lines::Words;
 use crate::word_tests::{Command, Test};
@@ -13,10 +13,14 @@ use crate::word_tests::{Command, Test};
 pub enum Form {
     /// `KEYS TAPE eval ORDER HEX`
     Eval,
+    /// `KEYS TAPE check`
+    Check,
+    /// `KEYS TAPE upgrade`
+    Upgrade,
 }
 
 /// All forms.
-pub const FORMS: [Form; 1] = [Form::Eval];
+pub const FORMS: [Form; 3] = [Form::Eval, Form::Check, Form::Upgrade];
 
 /// The words of `eval`.
 pub const EVAL: [Test; 5] = [
@@ -27,11 +31,21 @@ pub const EVAL: [Test; 5] = [
     Test::Hex,
 ];
 
+/// The words of `check`.
+pub const CHECK: [Test; 3] = [Test::Given, Test::Tape, Test::Named(Command::Check)];
+
+/// The words of `upgrade`.
+pub const UPGRADE: [Test; 3] = [Test::Given, Test::Tape, Test::Named(Command::Upgrade)];
+
 /// What the words of a command line ask for.
 #[derive(Clone, Copy, Debug, PartialEq, Eq)]
 pub enum Job {
     /// Evaluate a circuit at this order, 1 to 7.
     Eval { order: u32 },
+    /// Say whether a circuit is accepted, and whether it is strong.
+    Check,
+    /// Write a circuit text of either version in version 2.
+    Upgrade,
 }
 
 /// The words are no job. No job's words begin with the first `place` words, or more words are wanted than there are.
@@ -47,6 +61,8 @@ impl Form {
     {
         match self {
             Form::Eval => &EVAL,
+            Form::Check => &CHECK,
+            Form::Upgrade => &UPGRADE,
         }
     }
 }
@@ -98,6 +114,8 @@ fn job_of(form: Form, words: &Words) -> Job
         Form::Eval => Job::Eval {
             order: order_of(words.word(3)),
         },
+        Form::Check => Job::Check,
+        Form::Upgrade => Job::Upgrade,
     }
 }
 
@@ -108,7 +126,8 @@ fn order_of(word: &str) -> u32
     u32::from(word.as_bytes()[0] - b'0')
 }
 
-/// Words are refused at one place, and those of a job at none.
+/// Words are one job at most, and are refused at one place at most. Those of a job aren't refused.
 pub fn words_have_one_answer()
-    ensures { HaveOneAnswer }
+    ensures job { HaveOneJob }
+    ensures place { HaveOnePlace }
 {}

@@ -9,6 +9,10 @@ ghost use Rattle.mask_words.specs.WordTests.{passes, command_text, are_hex_digit
 pub enum Command {
     /// `eval`
     Eval,
+    /// `check`
+    Check,
+    /// `upgrade`
+    Upgrade,
 }
 
 impl Command {
@@ -17,6 +21,8 @@ impl Command {
     {
         match self {
             Command::Eval => "eval",
+            Command::Check => "check",
+            Command::Upgrade => "upgrade",
         }
     }
 }

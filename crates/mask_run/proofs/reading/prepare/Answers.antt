@@ -1,5 +1,6 @@
 use Rattle.std.proofs.Common.{refl, ◌∙◌, subst, ℕ}
 use Rattle.mask_run.specs.Hexadecimal.{IsInputOf, FitInputs, hex_bytes}
+use Rattle.mask_run.proofs.Told.{Refuses-text}
 use Rattle.mask_run.proofs.reading.prepare.Goals as goal
 
 pub invariant_of-result : goal.invariant_of-result
@@ -18,4 +19,4 @@ returns-in-Ok-None-clause-err g c text told =
     (refl, (c.in-Ok.circuit, found.0, subst (λ (n : ℕ). FitInputs (hex_bytes c.args.hex.now) n → ⊥) c.inputs-inputs.ensures misfit))
 
 pub returns-in-Err-clause-err : goal.returns-in-Err-clause-err
-returns-in-Err-clause-err g c text told = c.in-Err.ensures.err text c.args.hex.now told
+returns-in-Err-clause-err g c text told = Refuses-text text c.args.hex.now _ (c.in-Err.ensures.err text told)

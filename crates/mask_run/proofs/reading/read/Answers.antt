@@ -13,11 +13,11 @@ returns-in-Ok-clause-ok g c text told =
     (record { within = found.0; is_text = found.1 }, found.2)
 
 pub returns-in-Err-clause-err : goal.returns-in-Err-clause-err
-returns-in-Err-clause-err g c text hex told =
+returns-in-Err-clause-err g c text told =
     let now = g.S.Source.left c.read_circuit.new.source in
     let was = g.S.Source.faults c.args.input.now in
     let is = g.S.Source.faults c.read_circuit.new.source in
-    rw c.status_of.ensures (Explains-told c.in-Err.error text hex now was is
+    rw c.status_of.ensures (Explains-told c.in-Err.error text now was is
     (subst (λ (before : Option (List ℕ)). Explains c.in-Err.error before now was is) told c.in-Err.ensures.only))
 
 pub returns-in-Err-clause-reading : goal.returns-in-Err-clause-reading

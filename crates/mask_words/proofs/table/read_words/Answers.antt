@@ -13,5 +13,5 @@ loop-form-preserved c =
 
 pub returns-clause-refused : goal.returns-clause-refused
 returns-clause-refused c =
-    let all : c.loop-form.form-index ≡ 1 = omega arith in
+    let all : c.loop-form.form-index ≡ 3 = omega arith in
     IsRefused-tried _ _ (subst (λ (n : ℕ). Tried c.args.words.now n c.loop-form.farthest) all c.loop-form.invariant)
