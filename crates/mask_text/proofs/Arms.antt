@@ -41,7 +41,8 @@ goes_second Plain l h = absurd (false≢true h)
 goes_second Named l h = absurd (false≢true h)
 goes_second Ended l h = absurd (false≢true h)
 
-goes_inputs : (p : Place) (l : LabelledNetlist) (n : ℕ) → IsSome (goes_on p l (Inputs n)) → goes_on p l (Inputs n) ≡ Some (at Plain (record l { circuit = only_inputs n }))
+goes_inputs : (p : Place) (l : LabelledNetlist) (n : ℕ) → IsSome (goes_on p l (Inputs n)) → goes_on p l (Inputs n)
+    ≡ Some (at Plain (record l { circuit = only_inputs n }))
 unfolding goes_on
 goes_inputs Start l n h = absurd (false≢true h)
 goes_inputs Size l n h = refl
@@ -58,7 +59,8 @@ goes_input Plain l name n h = absurd (false≢true h)
 goes_input Named l name n h = let g = if_goes (has_no_gates l && has_no_groups_out l) Named (more_inputs l name n) h in (refl, g.0, g.1)
 goes_input Ended l name n h = absurd (false≢true h)
 
-goes_gate : (p : Place) (l : LabelledNetlist) (gate : Gate) → IsSome (goes_on p l (Makes gate)) → goes_on p l (Makes gate) ≡ Some (at p (more_gate l gate))
+goes_gate : (p : Place) (l : LabelledNetlist) (gate : Gate) → IsSome (goes_on p l (Makes gate)) → goes_on p l (Makes gate)
+    ≡ Some (at p (more_gate l gate))
 unfolding goes_on
 goes_gate Start l gate h = absurd (false≢true h)
 goes_gate Size l gate h = absurd (false≢true h)
@@ -102,7 +104,8 @@ module _ (old : Reader) (said : Said) (reading : IsReading old)
   right_line : (line : Line) → line_of said ≡ line → IsRight (labelled_of old) line
   right_line line e = right_means (labelled_of old) line (subst (λ (x : Line). wrong (labelled_of old) x ≡ None) e right)
 
-  goes_line : (line : Line) (draft : Option Draft) → line_of said ≡ line → goes_on old.place (labelled_of old) line ≡ draft → goes_on old.place (labelled_of old) (line_of said) ≡ draft
+  goes_line : (line : Line) (draft : Option Draft) → line_of said ≡ line → goes_on old.place (labelled_of old) line ≡ draft
+      → goes_on old.place (labelled_of old) (line_of said) ≡ draft
   goes_line line draft e g = ap (goes_on old.place (labelled_of old)) e ∙ g
 
   pub took_first : said ≡ say.First → Took (record old { place = Size }) (goes_on old.place (labelled_of old) (line_of said))
@@ -114,7 +117,11 @@ module _ (old : Reader) (said : Said) (reading : IsReading old)
   took_second e =
       let g = goes_second old.place (labelled_of old) (follows_line Second (ap line_of e)) in (
         goes_line Second _ (ap line_of e) g.1,
-        record { promised = reading.promised; filled = subst (λ (p : Place). IsFilled p (length old.builder.outputs) old.promised) g.0 reading.filled },
+        record {
+          promised = reading.promised;
+          filled = subst (λ (p : Place). IsFilled p (length old.builder.outputs) old.promised) g.0
+              reading.filled;
+        },
       )
 
   pub few_inputs : (n : ℕ) → said ≡ say.Inputs n → n ≤ MAX_VALUES
@@ -139,7 +146,8 @@ module _ (old : Reader) (said : Said) (reading : IsReading old)
       let parts = and_parts (has_no_gates (labelled_of old)) (has_no_groups_out (labelled_of old)) g.1 in
       let r = right_line (Input name.now n) (ap line_of e) in
       let within = and_parts (ltb (length old.inputs.items) MAX_GROUPS) (leb (old.builder.inputs + n) MAX_VALUES) r.within in
-      let filled : length old.builder.outputs ≤ old.promised = subst (λ (p : Place). IsFilled p (length old.builder.outputs) old.promised) g.0 reading.filled in
+      let filled : length old.builder.outputs ≤ old.promised = subst (λ (p : Place). IsFilled p (length old.builder.outputs) old.promised)
+      g.0 reading.filled in
       let none : sizes old.outputs.items ≡ 0 = ap sizes (empty_list old.outputs.items (eqb-true _ _ parts.1)) in
       let promised = reading.promised in
       record {
@@ -189,7 +197,8 @@ module _ (old : Reader) (said : Said) (reading : IsReading old)
       let g = goes_output old.place (labelled_of old) name.now n (follows_line _ (ap line_of e)) in
       let more = sizes-push old.outputs.items (record { name = name.now; size = n }) in
       let was = reading.promised in
-      let filled : length old.builder.outputs ≤ old.promised = subst (λ (p : Place). IsFilled p (length old.builder.outputs) old.promised) g.0 reading.filled in
+      let filled : length old.builder.outputs ≤ old.promised = subst (λ (p : Place). IsFilled p (length old.builder.outputs) old.promised)
+      g.0 reading.filled in
       let named : new.place ≡ Named = place ∙ g.0 in
       let fits : length old.builder.outputs ≤ old.promised + n = omega arith in (
         goes_line _ _ (ap line_of e) g.1 ∙ cc,

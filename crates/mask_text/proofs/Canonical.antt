@@ -128,7 +128,8 @@ counts w ws is =
     let first = leb-true 45 (get_or w 0 0) (all_at (λ b. leb 45 b) w 0 is.bytes some) in
     ne_eqb (get_or w 0 0) 35 (λ e. omega arith)
 
-kept-one : (line : List ℕ) (ws : List (List ℕ)) (lines : List (List ℕ)) → words line ≡ ws → is_passed_over ws ≡ false → kept (line ∷ lines) ≡ ws ∷ kept lines
+kept-one : (line : List ℕ) (ws : List (List ℕ)) (lines : List (List ℕ)) → words line ≡ ws → is_passed_over ws ≡ false → kept (line ∷ lines)
+    ≡ ws ∷ kept lines
 kept-one line ws lines e count = ap (λ xs. cond (is_passed_over xs) (kept lines) (xs ∷ kept lines)) e ∙ cond-false _ _ _ count
 
 line_counts : (line : Line) → IsSmall line → is_passed_over (line_words line) ≡ false

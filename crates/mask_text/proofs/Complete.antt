@@ -38,7 +38,8 @@ unfolding run lead
 run-lead [] d small = refl
 run-lead (line ∷ lines) d small =
     ap (λ o. run_on (λ next. run next (map line_words lines)) (unless_unsaid d o)) (said-again line small.0)
-    ∙ run_on-both (λ next. run next (map line_words lines)) (λ next. lead next lines) (λ next. run-lead lines next small.1) (unless_misplaced d line (goes_on d.place d.so_far line))
+    ∙ run_on-both (λ next. run next (map line_words lines)) (λ next. lead next lines) (λ next. run-lead lines next small.1)
+    (unless_misplaced d line (goes_on d.place d.so_far line))
 
 -- a line that may stand there and is right
 lead-step : (d : Draft) (line : Line) (next : Draft) (after : List Line) → goes_on d.place d.so_far line ≡ Some next → wrong d.so_far line ≡ None
@@ -47,7 +48,8 @@ unfolding lead
 lead-step d line next after goes right =
     ap (λ o. run_on (λ e. lead e after) (unless_misplaced d line o)) goes ∙ ap (λ w. run_on (λ e. lead e after) (unless_wrong next w)) right
 
-right_none : (l : LabelledNetlist) (line : Line) → has_taken_name l line ≡ false → is_known l line ≡ true → is_within l line ≡ true → wrong l line ≡ None
+right_none : (l : LabelledNetlist) (line : Line) → has_taken_name l line ≡ false → is_known l line ≡ true → is_within l line ≡ true
+    → wrong l line ≡ None
 unfolding wrong
 right_none l line fresh known within = rw (fresh, known, within) refl
 
@@ -68,7 +70,8 @@ below_known n (Ref u) h = lt-ltb _ _ h
 with_inputs : ℕ → List NamedGroup → LabelledNetlist
 with_inputs n ins = record { circuit = only_inputs n; inputs = ins; outputs = [] }
 
-inputs-step : (g : NamedGroup) (ins : List NamedGroup) (n : ℕ) (after : List Line) → is_taken g.name ins ≡ false → length ins < 1000 → n + g.size ≤ MAX_VALUES
+inputs-step : (g : NamedGroup) (ins : List NamedGroup) (n : ℕ) (after : List Line) → is_taken g.name ins ≡ false → length ins < 1000
+    → n + g.size ≤ MAX_VALUES
     → lead (at Named (with_inputs n ins)) (Input g.name g.size ∷ after) ≡ lead (at Named (with_inputs (n + g.size) (ins ++ g ∷ []))) after
 unfolding goes_on has_taken_name is_known is_within with_inputs
 inputs-step g ins n after fresh room few =
@@ -76,7 +79,8 @@ inputs-step g ins n after fresh room few =
     (right_none (with_inputs n ins) (Input g.name g.size) fresh refl (and_from _ _ (lt-ltb _ _ room) (le-leb _ _ few)))
 
 inputs-go : (gs ins : List NamedGroup) (n : ℕ) (after : List Line) → AreGroups ins gs → length ins + length gs ≤ 1000 → n + sizes gs ≤ MAX_VALUES
-    → lead (at Named (with_inputs n ins)) (map (λ g. Input g.name g.size) gs ++ after) ≡ lead (at Named (with_inputs (n + sizes gs) (ins ++ gs))) after
+    → lead (at Named (with_inputs n ins)) (map (λ g. Input g.name g.size) gs ++ after)
+    ≡ lead (at Named (with_inputs (n + sizes gs) (ins ++ gs))) after
 inputs-go [] ins n after are room few =
     let none : n ≡ n + 0 = omega arith in
     ap₂ (λ m xs. lead (at Named (with_inputs m xs)) after) none (sym (append-nil ins))
@@ -144,10 +148,12 @@ module _ (n : ℕ) (gates : List Gate) (ins : List NamedGroup) where
       (right_none (with_groups before us) (Output g.name g.size) fresh refl (and_from _ _ (lt-ltb _ _ room) (le-leb _ _ few)))
 
   group-outs : (outs : List NamedGroup) (vs us : List ℕ) (after : List Line) → sizes outs ≤ MAX_OUTPUTS → All (λ u. u < n + length gates) vs
-      → length us + length vs ≤ sizes outs → lead (at Named (with_groups outs us)) (map Out vs ++ after) ≡ lead (at Named (with_groups outs (us ++ vs))) after
+      → length us + length vs ≤ sizes outs → lead (at Named (with_groups outs us)) (map Out vs ++ after)
+      ≡ lead (at Named (with_groups outs (us ++ vs))) after
   unfolding goes_on with_groups with_outs
   group-outs outs vs us after limit known few =
-      outs-go Named n gates ins outs (sizes outs) limit (λ xs u missing. if_so-true _ Named _ (not_from_false _ (lt-leb _ _ missing))) vs us after known few
+      outs-go Named n gates ins outs (sizes outs) limit (λ xs u missing. if_so-true _ Named _ (not_from_false _ (lt-leb _ _ missing))) vs
+      us after known few
 
   groups-go : (gs before : List NamedGroup) (us vs : List ℕ) (after : List Line) → AreGroups before gs → length before + length gs ≤ 1000
       → sizes before ≡ length us → sizes gs ≡ length vs → length us + length vs ≤ MAX_OUTPUTS → All (λ u. u < n + length gates) vs
@@ -165,8 +171,10 @@ module _ (n : ℕ) (gates : List Gate) (ins : List NamedGroup) where
       let all_long = length-append us front in
       group-step g before us ((map Out front ++ output_lines gs back) ++ after) are.2 (omega arith) (omega arith) (omega arith)
       ∙ ap (λ xs. lead (at Named (with_groups (before ++ g ∷ []) us)) xs) (append_assoc (map Out front) (output_lines gs back) after)
-      ∙ group-outs (before ++ g ∷ []) front us (output_lines gs back ++ after) (omega arith) (All-take (λ u. u < n + length gates) g.size vs known) (omega arith)
-      ∙ groups-go gs (before ++ g ∷ []) (us ++ front) back after are.3 (omega arith) (omega arith) (omega arith) (omega arith) (All-drop (λ u. u < n + length gates) g.size vs known)
+      ∙ group-outs (before ++ g ∷ []) front us (output_lines gs back ++ after) (omega arith)
+      (All-take (λ u. u < n + length gates) g.size vs known) (omega arith)
+      ∙ groups-go gs (before ++ g ∷ []) (us ++ front) back after are.3 (omega arith) (omega arith) (omega arith) (omega arith)
+      (All-drop (λ u. u < n + length gates) g.size vs known)
       ∙ ap₂ (λ xs ys. lead (at Named (with_groups xs ys)) after) (append_assoc before (g ∷ []) gs)
       (append_assoc us front back ∙ ap (λ xs. us ++ xs) (take-append-drop g.size vs))
 
@@ -205,7 +213,8 @@ lead-second l is =
     let outs = output_lines l.outputs c.outputs in
     let sum : 0 + sizes l.inputs ≡ c.inputs = omega arith in
     begin_second ((ins ++ (gates ++ outs)) ++ End ∷ [])
-    ∙ ap (lead (at Named (with_inputs 0 []))) (append_assoc ins (gates ++ outs) (End ∷ []) ∙ ap (λ xs. ins ++ xs) (append_assoc gates outs (End ∷ [])))
+    ∙ ap (lead (at Named (with_inputs 0 []))) (append_assoc ins (gates ++ outs) (End ∷ [])
+    ∙ ap (λ xs. ins ++ xs) (append_assoc gates outs (End ∷ [])))
     ∙ inputs-go l.inputs [] 0 (gates ++ (outs ++ End ∷ [])) is.inputs (omega arith) (omega arith)
     ∙ ap (λ m. lead (at Named (with_inputs m l.inputs)) (gates ++ (outs ++ End ∷ []))) sum
     ∙ gates_named c.inputs l.inputs c.gates (outs ++ End ∷ []) circuit.gates values
@@ -221,15 +230,18 @@ gates_plain n gs after are few =
     gates-go Plain n [] (λ hs h. refl) gs [] after (subst (λ (m : ℕ). AreGates m gs) none are) (omega arith)
 
 outs_plain : (c : Netlist) (after : List Line) → All (λ u. u < value_count c) c.outputs → length c.outputs ≤ MAX_OUTPUTS
-    → lead (at Plain (with_groups c.inputs c.gates [] [] [])) (map Out c.outputs ++ after) ≡ lead (at Plain (with_groups c.inputs c.gates [] [] c.outputs)) after
+    → lead (at Plain (with_groups c.inputs c.gates [] [] [])) (map Out c.outputs ++ after)
+    ≡ lead (at Plain (with_groups c.inputs c.gates [] [] c.outputs)) after
 unfolding goes_on with_groups with_outs
-outs_plain c after known few = outs-go Plain c.inputs c.gates [] [] MAX_OUTPUTS (omega arith) (λ us u room. refl) c.outputs [] after known (omega arith)
+outs_plain c after known few = outs-go Plain c.inputs c.gates [] [] MAX_OUTPUTS (omega arith) (λ us u room. refl) c.outputs [] after known
+    (omega arith)
 
 begin_first : (n : ℕ) (after : List Line) → n ≤ MAX_VALUES → lead at_start (First ∷ (Inputs n ∷ after)) ≡ lead (at Plain (of_inputs n)) after
 unfolding goes_on has_taken_name is_known is_within
 begin_first n after few =
     lead-step at_start First (at Size (of_inputs 0)) (Inputs n ∷ after) refl (right_none (of_inputs 0) First refl refl refl)
-    ∙ lead-step (at Size (of_inputs 0)) (Inputs n) (at Plain (of_inputs n)) after refl (right_none (of_inputs 0) (Inputs n) refl refl (le-leb _ _ few))
+    ∙ lead-step (at Size (of_inputs 0)) (Inputs n) (at Plain (of_inputs n)) after refl
+    (right_none (of_inputs 0) (Inputs n) refl refl (le-leb _ _ few))
 
 end_plain : (c : Netlist) → lead (at Plain (with_groups c.inputs c.gates [] [] c.outputs)) (End ∷ []) ≡ Some (with_plain_groups c)
 unfolding goes_on has_taken_name is_known is_within with_groups lead
@@ -275,12 +287,14 @@ small-inputs : (before gs : List NamedGroup) → AreGroups before gs → sizes g
 small-inputs before [] are few = tt
 small-inputs before (g ∷ gs) are few = ((are.0, are.1, omega arith), small-inputs (before ++ g ∷ []) gs are.3 (omega arith))
 
-small-output_lines : (n : ℕ) (before gs : List NamedGroup) (us : List ℕ) → AreGroups before gs → sizes gs ≤ MAX_OUTPUTS → n ≤ MAX_VALUES → All (λ u. u < n) us
+small-output_lines : (n : ℕ) (before gs : List NamedGroup) (us : List ℕ) → AreGroups before gs → sizes gs ≤ MAX_OUTPUTS → n ≤ MAX_VALUES
+    → All (λ u. u < n) us
     → AllSmall (output_lines gs us)
 small-output_lines n before [] us are few values known = tt
 small-output_lines n before (g ∷ gs) us are few values known = (
   (are.0, are.1, omega arith),
-  small-append (map Out (take g.size us)) (output_lines gs (drop g.size us)) (small-outs n (take g.size us) values (All-take (λ v. v < n) g.size us known))
+  small-append (map Out (take g.size us)) (output_lines gs (drop g.size us))
+      (small-outs n (take g.size us) values (All-take (λ v. v < n) g.size us known))
       (small-output_lines n (before ++ g ∷ []) gs (drop g.size us) are.3 (omega arith) values (All-drop (λ v. v < n) g.size us known)),
 )
 
@@ -295,7 +309,8 @@ small-first c is =
       (
         (let small : c.inputs < 10 ^ 9 = omega arith in small),
         small-append (map Makes c.gates ++ map Out c.outputs) (End ∷ [])
-            (small-append (map Makes c.gates) (map Out c.outputs) (small-gates c.inputs c.gates is.gates values) (small-outs _ c.outputs values is.outputs)) end_small,
+            (small-append (map Makes c.gates) (map Out c.outputs) (small-gates c.inputs c.gates is.gates values)
+            (small-outs _ c.outputs values is.outputs)) end_small,
       ),
     )
 
@@ -327,7 +342,8 @@ pub complete : (bytes : List ℕ) (l : LabelledNetlist) → IsText bytes l → r
 unfolding reading
 complete bytes l text = right_is _ l (run-kept (text_lines bytes) at_start 1 ∙ by text.lines)
   where
-    by : (spoken bytes ≡ map line_words (second_lines l)) ⊎ ((l ≡ with_plain_groups l.circuit) × (spoken bytes ≡ map line_words (first_lines l.circuit))) → run at_start (spoken bytes) ≡ Some l
+    by : (spoken bytes ≡ map line_words (second_lines l)) ⊎ ((l ≡ with_plain_groups l.circuit)
+        × (spoken bytes ≡ map line_words (first_lines l.circuit))) → run at_start (spoken bytes) ≡ Some l
     by (inl e) = ap (run at_start) e ∙ run-lead (second_lines l) at_start (small-second l text.labelled) ∙ lead-second l text.labelled
     by (inr e) = ap (run at_start) e.1 ∙ run-lead (first_lines l.circuit) at_start (small-first l.circuit text.labelled.circuit)
         ∙ lead-first l.circuit text.labelled.circuit ∙ ap Some (sym e.0)

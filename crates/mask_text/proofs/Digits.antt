@@ -21,7 +21,8 @@ pub record NextDigit (word : List ℕ) (k v : ℕ) : Type 0 where
   pub fits : v * 10 + (get_or word k 0 - 48) < 10 ^ 9
   pub same : value_behind (v * 10 + (get_or word k 0 - 48)) (drop (k + 1) word) ≡ value_behind 0 word
 
-pub next_digit : (word : List ℕ) (k v : ℕ) → IsNumber word → k < length word → v < 10 ^ k → value_behind v (drop k word) ≡ value_behind 0 word → NextDigit word k v
+pub next_digit : (word : List ℕ) (k v : ℕ) → IsNumber word → k < length word → v < 10 ^ k → value_behind v (drop k word)
+    ≡ value_behind 0 word → NextDigit word k v
 next_digit word k v is below small same =
     let digit = digit_at word k is.digits below in
     let more : 10 ^ (k + 1) ≡ 10 ^ k * 10 = pow_more 10 k in
@@ -32,5 +33,6 @@ next_digit word k v is below small same =
       digit = digit.0;
       small = grown;
       fits = omega arith;
-      same = ap (λ j. value_behind (v * 10 + (get_or word k 0 - 48)) (drop j word)) (add-one k) ∙ sym (ap (value_behind v) (drop-cons word k 0 below)) ∙ same;
+      same = ap (λ j. value_behind (v * 10 + (get_or word k 0 - 48)) (drop j word)) (add-one k)
+          ∙ sym (ap (value_behind v) (drop-cons word k 0 below)) ∙ same;
     }

@@ -23,13 +23,16 @@ module _ (c : Netlist) where
   pub first_front-out : (u : ℕ) → first_front (with_output c u) ≡ first_front c ++ Out u ∷ []
   unfolding first_front
   first_front-out u = ap (λ xs. First ∷ (Inputs c.inputs ∷ xs))
-      (ap (λ xs. map Makes c.gates ++ xs) (map-append Out c.outputs (u ∷ [])) ∙ sym (append_assoc (map Makes c.gates) (map Out c.outputs) (Out u ∷ [])))
+      (ap (λ xs. map Makes c.gates ++ xs) (map-append Out c.outputs (u ∷ []))
+      ∙ sym (append_assoc (map Makes c.gates) (map Out c.outputs) (Out u ∷ [])))
 
 module _ (l : LabelledNetlist) where
-  pub second_front-input : (name : List ℕ) (n : ℕ) → l.circuit.gates ≡ [] → l.outputs ≡ [] → second_front (more_inputs l name n) ≡ second_front l ++ Input name n ∷ []
+  pub second_front-input : (name : List ℕ) (n : ℕ) → l.circuit.gates ≡ [] → l.outputs ≡ [] → second_front (more_inputs l name n)
+      ≡ second_front l ++ Input name n ∷ []
   unfolding second_front
   second_front-input name n no_gates no_groups =
-      rw (no_gates, no_groups) (ap (λ xs. Second ∷ xs) (append-nil (map (λ g. Input g.name g.size) (l.inputs ++ record { name = name; size = n } ∷ []))
+      rw (no_gates, no_groups) (ap (λ xs. Second ∷ xs) (append-nil
+      (map (λ g. Input g.name g.size) (l.inputs ++ record { name = name; size = n } ∷ []))
       ∙ map-append (λ g. Input g.name g.size) l.inputs (record { name = name; size = n } ∷ [])
       ∙ sym (ap (λ xs. xs ++ Input name n ∷ []) (append-nil (map (λ g. Input g.name g.size) l.inputs)))))
 

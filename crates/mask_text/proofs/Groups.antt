@@ -55,7 +55,8 @@ lines-push [] g (u ∷ us) few = absurd (omega arith)
 lines-push (h ∷ gs) g us few =
     let rest = lines-push gs g (drop h.size us) (omega (arith, length-drop h.size us)) in
     ap (λ xs. Output h.name h.size ∷ (map Out (take h.size us) ++ xs)) rest
-    ∙ ap (λ xs. Output h.name h.size ∷ xs) (sym (append_assoc (map Out (take h.size us)) (output_lines gs (drop h.size us)) (Output g.name g.size ∷ [])))
+    ∙ ap (λ xs. Output h.name h.size ∷ xs) (sym (append_assoc (map Out (take h.size us)) (output_lines gs (drop h.size us))
+    (Output g.name g.size ∷ [])))
 
 -- the lines with one more output, of the last group
 pub lines-out : (gs : List NamedGroup) (us : List ℕ) (u : ℕ) → IsOpen gs (length us) → length us < sizes gs

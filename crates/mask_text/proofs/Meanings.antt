@@ -32,11 +32,13 @@ IsSmall (Output name n) = (is_name name ≡ true) × (1 ≤ n) × (n < 10 ^ 9)
 IsSmall (Out u) = u < 10 ^ 9
 IsSmall End = Unit {0}
 
-group_of-again : (line : List ℕ → ℕ → Line) (name : List ℕ) (n : ℕ) → is_name name ≡ true → 1 ≤ n → n < 10 ^ 9 → group_of line name (number (decimal n)) ≡ Some (line name n)
+group_of-again : (line : List ℕ → ℕ → Line) (name : List ℕ) (n : ℕ) → is_name name ≡ true → 1 ≤ n → n < 10 ^ 9
+    → group_of line name (number (decimal n)) ≡ Some (line name n)
 group_of-again line name n named some small =
     ap (group_of line name) (number-again n small) ∙ cond-true _ _ _ (and_from _ _ named (le-leb _ _ some))
 
-gate_of_two-again : (gate : ℕ → ℕ → Gate) (u v : ℕ) → u < 10 ^ 9 → v < 10 ^ 9 → gate_of_two gate (number (decimal u)) (number (decimal v)) ≡ Some (Makes (gate u v))
+gate_of_two-again : (gate : ℕ → ℕ → Gate) (u v : ℕ) → u < 10 ^ 9 → v < 10 ^ 9 → gate_of_two gate (number (decimal u)) (number (decimal v))
+    ≡ Some (Makes (gate u v))
 gate_of_two-again gate u v small small' = rw (number-again u small, number-again v small') refl
 
 -- the words of a line say that line
@@ -61,7 +63,8 @@ abbrev Spells : List (List ℕ) → Line → Type 0
 Spells ws line = (ws ≡ line_words line) × IsSmall line
 
 -- a choice of two that gives a line
-if_took : (b : Bool) (x y : Option Line) (line : Line) (P : Type 0) → cond b x y ≡ Some line → (b ≡ true → x ≡ Some line → P) → (y ≡ Some line → P) → P
+if_took : (b : Bool) (x y : Option Line) (line : Line) (P : Type 0) → cond b x y ≡ Some line → (b ≡ true → x ≡ Some line → P)
+    → (y ≡ Some line → P) → P
 if_took true x y line P e here later = here refl e
 if_took false x y line P e here later = later e
 
@@ -69,7 +72,8 @@ word_is : (w v : List ℕ) → bytes_eq w v ≡ true → w ≡ v
 word_is w v e = (bytes_eq-Decides w v).0 e
 
 -- a word alone that is this one says this line
-alone : (w v : List ℕ) (said line : Line) → (v ∷ [] ≡ line_words said) × IsSmall said → bytes_eq w v ≡ true → Some said ≡ Some line → Spells (w ∷ []) line
+alone : (w v : List ℕ) (said line : Line) → (v ∷ [] ≡ line_words said) × IsSmall said → bytes_eq w v ≡ true → Some said ≡ Some line
+    → Spells (w ∷ []) line
 alone w v said line is e f =
     let same : said ≡ line = cc in
     let word = word_is w v e in
@@ -129,7 +133,8 @@ grouped w v second third says line is e f = by (number third) refl f
         (λ g. cc)
 
 -- the word for a version
-versioned : (w second : List ℕ) (line : Line) → bytes_eq w (codes "masked-circuit") ≡ true → version_of second ≡ Some line → Spells (w ∷ (second ∷ [])) line
+versioned : (w second : List ℕ) (line : Line) → bytes_eq w (codes "masked-circuit") ≡ true → version_of second ≡ Some line
+    → Spells (w ∷ (second ∷ [])) line
 versioned w second line e f =
     if_took (bytes_eq second (codes "1")) (Some First) _ line _ f
     (λ is g. let a = word_is w _ e in let b = word_is second _ is in let same : First ≡ line = cc in

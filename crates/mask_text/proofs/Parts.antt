@@ -22,7 +22,8 @@ spelling-tail xs ys =
     spelling-append (xs ++ ys) (End ∷ []) ∙ ap (λ t. t ++ (alone End ++ [])) (spelling-append xs ys)
     ∙ append_assoc (spelling xs) (spelling ys) (alone End ++ []) ∙ ap (λ t. spelling xs ++ (spelling ys ++ t)) (append-nil (alone End))
 
-pub first_parts : (c : Netlist) (inputs : List ℕ) (gates : List Gate) (outs : List ℕ) → inputs ≡ alone (Inputs c.inputs) → gates ≡ c.gates → outs ≡ c.outputs
+pub first_parts : (c : Netlist) (inputs : List ℕ) (gates : List Gate) (outs : List ℕ) → inputs ≡ alone (Inputs c.inputs) → gates ≡ c.gates
+    → outs ≡ c.outputs
     → canonical c ≡ alone First ++ (inputs ++ (spelling (map Makes gates) ++ (spelling (map Out outs) ++ alone End)))
 unfolding canonical first_front
 first_parts c inputs gates outs e f g =
@@ -30,7 +31,8 @@ first_parts c inputs gates outs e f g =
 
 pub second_parts : (l : LabelledNetlist) (ins : List NamedGroup) (gates : List Gate) (outs : List NamedGroup) (us : List ℕ)
     → ins ≡ l.inputs → gates ≡ l.circuit.gates → outs ≡ l.outputs → us ≡ l.circuit.outputs
-    → canonical2 l ≡ alone Second ++ (spelling (map (λ g. Input g.name g.size) ins) ++ (spelling (map Makes gates) ++ (spelling (output_lines outs us) ++ alone End)))
+    → canonical2 l ≡ alone Second ++ (spelling (map (λ g. Input g.name g.size) ins) ++
+    (spelling (map Makes gates) ++ (spelling (output_lines outs us) ++ alone End)))
 unfolding canonical2 second_front
 second_parts l ins gates outs us e f g h =
     let named = map (λ (g : NamedGroup). Input g.name g.size) l.inputs in
@@ -68,7 +70,8 @@ module _ (whole t1 t2 t3 t4 t5 : List ℕ) (parts : whole ≡ t1 ++ (t2 ++ (t3 +
   pub stopped4 : Appends a b1 t1 → Appends b1 b2 t2 → Appends b2 b3 t3 → AppendsProperPrefix b3 b4 t4 → AppendsProperPrefix a b4 whole
   stopped4 s1 s2 s3 part = sent-stopped a b3 b4 t4 _ whole (sent3 s1 s2 s3) part
 
-  pub stopped5 : Appends a b1 t1 → Appends b1 b2 t2 → Appends b2 b3 t3 → Appends b3 b4 t4 → AppendsProperPrefix b4 b5 t5 → AppendsProperPrefix a b5 whole
+  pub stopped5 : Appends a b1 t1 → Appends b1 b2 t2 → Appends b2 b3 t3 → Appends b3 b4 t4 → AppendsProperPrefix b4 b5 t5
+      → AppendsProperPrefix a b5 whole
   stopped5 s1 s2 s3 s4 part = sent-stopped a b4 b5 t5 [] whole (sent4 s1 s2 s3 s4) part
 
   pub sent5 : Appends a b1 t1 → Appends b1 b2 t2 → Appends b2 b3 t3 → Appends b3 b4 t4 → Appends b4 b5 t5 → Appends a b5 whole

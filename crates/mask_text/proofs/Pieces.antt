@@ -6,7 +6,8 @@ use Rattle.std.proofs.lemmas.List.Splits.{slice_split_at, slice_split_none}
 use Rattle.mask_text.specs.Lines.{IsCut, split_at, text_lines, no_empty_last, unless_empty, solid, words_of}
 
 -- the bytes are cut at the first separator
-pub cut_at : (separator : ℕ) (bytes : List ℕ) (i : ℕ) → i < length bytes → All (λ b. eqb b separator ≡ false) (take i bytes) → get_or bytes i 0 ≡ separator
+pub cut_at : (separator : ℕ) (bytes : List ℕ) (i : ℕ) → i < length bytes → All (λ b. eqb b separator ≡ false) (take i bytes)
+    → get_or bytes i 0 ≡ separator
     → IsCut separator bytes (take i bytes) (take (length bytes - (i + 1)) (drop (i + 1) bytes))
 unfolding split_at
 cut_at separator bytes i within none is =
@@ -15,7 +16,8 @@ cut_at separator bytes i within none is =
     let parts = seq.split_at bytes i 0 within in
     let split = slice_split_at (λ b. eqb b separator) (take i bytes) (get_or bytes i 0) (drop (suc i) bytes) none (eq-eqb _ _ is) in
     record {
-      pieces = inl (ap (slice_split (λ b. eqb b separator)) parts ∙ split ∙ ap (λ xs. take i bytes ∷ slice_split (λ b. eqb b separator) xs) (sym whole));
+      pieces = inl (ap (slice_split (λ b. eqb b separator)) parts ∙ split
+          ∙ ap (λ xs. take i bytes ∷ slice_split (λ b. eqb b separator) xs) (sym whole));
       shorter = λ some. omega (arith, ap length whole, length-drop (suc i) bytes);
     }
 

@@ -69,7 +69,8 @@ wrong-takes next next' (Some reason) e = cc
 pub step-takes : (d : Draft) (ws : List (List ℕ)) (next : Draft) → unless_unsaid d (said ws) ≡ Ok next → Takes d ws next
 step-takes d ws next e = by (said ws) refl e
   where
-    goes : (line : Line) (o : Option Draft) → said ws ≡ Some line → goes_on d.place d.so_far line ≡ o → unless_misplaced d line o ≡ Ok next → Takes d ws next
+    goes : (line : Line) (o : Option Draft) → said ws ≡ Some line → goes_on d.place d.so_far line ≡ o → unless_misplaced d line o ≡ Ok next
+        → Takes d ws next
     goes line None says g f = cc
     goes line (Some found) says g f =
         let right = wrong-takes found next (wrong d.so_far line) f in

@@ -18,7 +18,8 @@ pub sent-none : (start : Option (List ℕ)) (whole : List ℕ) → Sent start st
 sent-none start whole = record { front = []; sent = Appends-nil start; all = refl }
 
 -- the next piece was sent
-pub sent-more : (start now then : Option (List ℕ)) (piece rest whole : List ℕ) → Sent start now (piece ++ rest) whole → Appends now then piece → Sent start then rest whole
+pub sent-more : (start now then : Option (List ℕ)) (piece rest whole : List ℕ) → Sent start now (piece ++ rest) whole
+    → Appends now then piece → Sent start then rest whole
 sent-more start now then piece rest whole s piece_sent = record {
   front = s.front ++ piece;
   sent = Appends-trans start now then s.front piece s.sent piece_sent;
@@ -29,7 +30,16 @@ pub sent-all : (start now : Option (List ℕ)) (whole : List ℕ) → Sent start
 sent-all start now whole s = subst (Appends start now) (sym (append-nil s.front) ∙ s.all) s.sent
 
 prefix-whole : (front piece rest done : List ℕ) → IsProperPrefix front piece → IsProperPrefix (done ++ front) (done ++ (piece ++ rest))
-prefix-whole front piece rest done is = (omega (arith, length-append done front, length-append done (piece ++ rest), length-append piece rest), by done)
+prefix-whole front piece rest done is = (
+  omega (
+    arith,
+    length-append done front,
+    length-append done (piece ++ rest),
+    length-append piece
+        rest,
+  ),
+  by done,
+)
   where
     here : take (length front) (piece ++ rest) ≡ front
     here = take-append-le (length front) piece rest (omega (arith, is.0)) ∙ is.1
@@ -39,7 +49,8 @@ prefix-whole front piece rest done is = (omega (arith, length-append done front,
     by (x ∷ xs) = ap (λ l. x ∷ l) (by xs)
 
 -- the next piece was sent in part alone
-pub sent-stopped : (start now then : Option (List ℕ)) (piece rest whole : List ℕ) → Sent start now (piece ++ rest) whole → AppendsProperPrefix now then piece
+pub sent-stopped : (start now then : Option (List ℕ)) (piece rest whole : List ℕ) → Sent start now (piece ++ rest) whole
+    → AppendsProperPrefix now then piece
     → AppendsProperPrefix start then whole
 sent-stopped start now then piece rest whole s part = (
   s.front ++ part.0,
@@ -85,7 +96,8 @@ module _ (groups : List NamedGroup) (i : ℕ) (g d : NamedGroup) (below : i < le
   groups_within us enough = let e = ap sizes next_group in omega (arith, length-drop g.size us)
 
   spelling-group : (us : List ℕ) → spelling (output_lines (drop i groups) us)
-      ≡ (spaced (line_words (Output g.name g.size)) ++ 10 ∷ []) ++ (spelling (map Out (take g.size us)) ++ spelling (output_lines (drop (i + 1) groups) (drop g.size us)))
+      ≡ (spaced (line_words (Output g.name g.size)) ++ 10 ∷ []) ++
+      (spelling (map Out (take g.size us)) ++ spelling (output_lines (drop (i + 1) groups) (drop g.size us)))
   spelling-group us =
       ap (λ l. spelling (output_lines l us)) next_group
       ∙ ap (λ xs. (spaced (line_words (Output g.name g.size)) ++ 10 ∷ []) ++ xs)

@@ -98,7 +98,8 @@ draft-input l name n is small right no_gates no_groups =
     let few = leb-true (l.circuit.inputs + n) MAX_VALUES within.1 in
     let no_promise : sizes l.outputs ≡ 0 = ap sizes no_groups in
     let no_outputs : l.circuit.outputs ≡ [] = empty_list l.circuit.outputs (let h = is.no_more in omega arith) in
-    let bare : IsCircuit (record l.circuit { inputs = l.circuit.inputs + n }) = rw (no_gates, no_outputs) (circuit-inputs (l.circuit.inputs + n) few) in
+    let bare : IsCircuit (record l.circuit { inputs = l.circuit.inputs + n }) = rw (no_gates, no_outputs)
+    (circuit-inputs (l.circuit.inputs + n) few) in
     let h1 = sizes-push l.inputs (record { name = name; size = n }) in
     let h2 = length-push l.inputs (record { name = name; size = n }) in
     record {
@@ -191,7 +192,8 @@ begin_second l is = sym (ap second_front is)
 advance : (p : Place) (l : LabelledNetlist) (line : Line) (e : Draft) (ls : List Line) → Holds p l ls → IsSmall line
     → goes_on p l line ≡ Some e → IsRight l line → Holds e.place e.so_far (ls ++ line ∷ [])
 unfolding goes_on is_known is_within
-advance Start l First e ls h s g w = let same : at Size l ≡ e = cc in subst (λ d. Holds d.place d.so_far (ls ++ First ∷ [])) same (ap (λ xs. xs ++ First ∷ []) h.1)
+advance Start l First e ls h s g w = let same : at Size l ≡ e = cc in subst (λ d. Holds d.place d.so_far (ls ++ First ∷ [])) same
+    (ap (λ xs. xs ++ First ∷ []) h.1)
 advance Start l Second e ls h s g w =
     let same : at Named l ≡ e = cc in
     subst (λ d. Holds d.place d.so_far (ls ++ Second ∷ [])) same
@@ -203,8 +205,11 @@ advance Size l (Inputs n) e ls h s g w =
 advance Plain l (Makes gate) e ls h s g w =
     let passed = if_passed (eqb (length l.circuit.outputs) 0) Plain (more_gate l gate) e g in
     let none = empty_list l.circuit.outputs (eqb-true _ _ passed.0) in
-    subst (λ d. Holds d.place d.so_far (ls ++ Makes gate ∷ [])) passed.1
-    (circuit-gate l.circuit gate h.0 (operands_below _ gate w.known) (ltb-true _ _ w.within), ap (λ xs. xs ++ Makes gate ∷ []) h.1 ∙ sym (first_front-gate l.circuit gate none))
+    subst (λ d. Holds d.place d.so_far (ls ++ Makes gate ∷ [])) passed.1 (
+      circuit-gate l.circuit gate h.0 (operands_below _ gate w.known) (ltb-true _ _ w.within),
+      ap (λ xs. xs ++ Makes gate ∷ []) h.1
+          ∙ sym (first_front-gate l.circuit gate none),
+    )
 advance Plain l (Out u) e ls h s g w =
     let same : at Plain (more_out l u) ≡ e = cc in
     subst (λ d. Holds d.place d.so_far (ls ++ Out u ∷ [])) same
@@ -245,9 +250,11 @@ advance p l line e ls h s g w = cc
 
 -- these words are those of the lines of the labelled circuit
 abbrev Says : LabelledNetlist → List (List (List ℕ)) → Type 0
-Says l wss = IsLabelled l × ((wss ≡ map line_words (second_lines l)) ⊎ ((l ≡ with_plain_groups l.circuit) × (wss ≡ map line_words (first_lines l.circuit))))
+Says l wss = IsLabelled l × ((wss ≡ map line_words (second_lines l)) ⊎
+    ((l ≡ with_plain_groups l.circuit) × (wss ≡ map line_words (first_lines l.circuit))))
 
-at_end_says : (p : Place) (so_far l : LabelledNetlist) (ls : List Line) → Holds p so_far ls → ended p so_far ≡ Some l → Says l (map line_words ls ++ [])
+at_end_says : (p : Place) (so_far l : LabelledNetlist) (ls : List Line) → Holds p so_far ls → ended p so_far ≡ Some l
+    → Says l (map line_words ls ++ [])
 at_end_says Start so_far l ls h e = cc
 at_end_says Size so_far l ls h e = cc
 at_end_says Plain so_far l ls h e = cc
@@ -256,12 +263,14 @@ at_end_says Ended so_far l ls h e =
     let same : so_far ≡ l = cc in
     subst (λ m. Says m (map line_words ls ++ [])) same (h.0, spelled h.1)
   where
-    spelled : Spells so_far ls → ((map line_words ls ++ []) ≡ map line_words (second_lines so_far)) ⊎ ((so_far ≡ with_plain_groups so_far.circuit) × ((map line_words ls ++ []) ≡ map line_words (first_lines so_far.circuit)))
+    spelled : Spells so_far ls → ((map line_words ls ++ []) ≡ map line_words (second_lines so_far)) ⊎
+        ((so_far ≡ with_plain_groups so_far.circuit) × ((map line_words ls ++ []) ≡ map line_words (first_lines so_far.circuit)))
     spelled (inl e) = inl (append-nil (map line_words ls) ∙ ap (map line_words) e)
     spelled (inr e) = inr (e.0, append-nil (map line_words ls) ∙ ap (map line_words) e.1)
 
 -- What is read of these words, behind these lines, is what they all stand for.
-run-says : (wss : List (List (List ℕ))) (d : Draft) (ls : List Line) (l : LabelledNetlist) → Holds d.place d.so_far ls → run d wss ≡ Some l → Says l (map line_words ls ++ wss)
+run-says : (wss : List (List (List ℕ))) (d : Draft) (ls : List Line) (l : LabelledNetlist) → Holds d.place d.so_far ls → run d wss ≡ Some l
+    → Says l (map line_words ls ++ wss)
 unfolding run
 run-says [] d ls l h e = at_end_says d.place d.so_far l ls h e
 run-says (ws ∷ wss) d ls l h e =

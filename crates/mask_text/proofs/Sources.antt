@@ -41,7 +41,8 @@ module _ {A : Type 0} (view : LabelledNetlist → A) (P : A → List ℕ → Typ
         long = λ many. absurd (omega arith);
       }
 
-  bad_decides : (line : ℕ) (reason : _) (bytes : List ℕ) (now : Option (List ℕ)) → TakesAll (Some bytes) now (λ xs. fault xs ≡ Some (fault_at line reason))
+  bad_decides : (line : ℕ) (reason : _) (bytes : List ℕ) (now : Option (List ℕ))
+      → TakesAll (Some bytes) now (λ xs. fault xs ≡ Some (fault_at line reason))
       → IsAnswerTo view bytes (Err (Bad line reason))
   bad_decides line reason bytes now took =
       let same = gave_all bytes now took.0 took.1 took.2 in
@@ -53,10 +54,12 @@ module _ {A : Type 0} (view : LabelledNetlist → A) (P : A → List ℕ → Typ
         long = λ many. absurd (omega arith);
       }
     where
-      fault_same : (first : Fault) → ◌≡◌ {A = Option Fault} (Some (fault_at line reason)) (Some first) → ◌≡◌ {A = Result A TextError} (Err (Bad line reason)) (Err (Bad first.line first.reason))
+      fault_same : (first : Fault) → ◌≡◌ {A = Option Fault} (Some (fault_at line reason)) (Some first)
+          → ◌≡◌ {A = Result A TextError} (Err (Bad line reason)) (Err (Bad first.line first.reason))
       fault_same first e = let f : fault_at line reason ≡ first = cc in ap (λ (x : Fault). Err (Bad x.line x.reason)) f
 
-  long_decides : (limit : ℕ) (bytes : List ℕ) (now : Option (List ℕ)) → limit ≡ MAX_TEXT → TakesTooMany (Some bytes) now → IsAnswerTo view bytes (Err (TooLong limit))
+  long_decides : (limit : ℕ) (bytes : List ℕ) (now : Option (List ℕ)) → limit ≡ MAX_TEXT → TakesTooMany (Some bytes) now
+      → IsAnswerTo view bytes (Err (TooLong limit))
   long_decides limit bytes now is took =
       let some = gave_some bytes now took.0 took.1 in
       let many = took.2 in
@@ -66,14 +69,16 @@ module _ {A : Type 0} (view : LabelledNetlist → A) (P : A → List ℕ → Typ
         long = λ more. inl (ap (λ n. Err (TooLong n)) is);
       }
 
-  failed_decides : (error : TextError) (bytes : List ℕ) → ((answer : Result A TextError) → IsUnlessFailed (Err error) answer) → IsAnswerTo view bytes (Err error)
+  failed_decides : (error : TextError) (bytes : List ℕ) → ((answer : Result A TextError) → IsUnlessFailed (Err error) answer)
+      → IsAnswerTo view bytes (Err error)
   failed_decides error bytes any = record {
     text = λ l text few. any (Ok (view l));
     bad = λ first e few. any (Err (Bad first.line first.reason));
     long = λ many. any (Err (TooLong MAX_TEXT));
   }
 
-  pub decides : (result : Result A TextError) (before now : Option (List ℕ)) (was is : ℕ) → Answers P result before now was is → IfSome before (λ bytes. IsAnswerTo view bytes result)
+  pub decides : (result : Result A TextError) (before now : Option (List ℕ)) (was is : ℕ) → Answers P result before now was is
+      → IfSome before (λ bytes. IsAnswerTo view bytes result)
   decides result None now was is answers = tt
   decides (Ok value) (Some bytes) now was is answers = found_decides value bytes now answers
   decides (Err (Bad line reason)) (Some bytes) now was is answers = bad_decides line reason bytes now answers

@@ -12,7 +12,8 @@ pub in_name_below : (b : ℕ) → is_in_name b ≡ true → (45 ≤ b) × (b ≤
 in_name_below b e = elim (or_cases (is_letter b) ((leb 48 b && leb b 57) || eqb b 45) e) [
   | inl letter ↦ (let p = letter_below b letter in (omega arith, p.1))
   | inr other ↦ elim (or_cases (leb 48 b && leb b 57) (eqb b 45) other) [
-    | inl digit ↦ (let p = and_parts (leb 48 b) (leb b 57) digit in let low = leb-true 48 b p.0 in let high = leb-true b 57 p.1 in (omega arith, omega arith))
+    | inl digit ↦ (let p = and_parts (leb 48 b) (leb b 57) digit in let low = leb-true 48 b p.0 in let high = leb-true b 57 p.1 in
+        (omega arith, omega arith))
     | inr hyphen ↦ (let is = eqb-true b 45 hyphen in (omega arith, omega arith))
   ]
 ]
@@ -37,6 +38,7 @@ name_means (b ∷ bs) e =
     let few = leb-true (length bs) 15 more.0 in
     record { some = omega arith; few = omega arith; bytes = byte (letter_below b parts.0) more.1 }
   where
-    byte : (97 ≤ b) × (b ≤ 122) → list_all is_in_name bs ≡ true → (k : ℕ) → k < length (b ∷ bs) → (45 ≤ get_or (b ∷ bs) k 0) × (get_or (b ∷ bs) k 0 ≤ 122)
+    byte : (97 ≤ b) × (b ≤ 122) → list_all is_in_name bs ≡ true → (k : ℕ) → k < length (b ∷ bs) → (45 ≤ get_or (b ∷ bs) k 0)
+        × (get_or (b ∷ bs) k 0 ≤ 122)
     byte first all zero below = (omega (arith, first.0), first.1)
     byte first all (suc k) below = in_name_below _ (all_at is_in_name bs k all (omega arith))

@@ -31,7 +31,8 @@ module _ (d : Draft) (ws : List (List ℕ)) (counts : is_passed_over ws ≡ fals
   unfolding step
   step_misplaced line s g = cond-false _ _ _ counts ∙ ap (unless_unsaid d) s ∙ ap (unless_misplaced d line) g
 
-  pub step_on : (line : Line) (next : Draft) → said ws ≡ Some line → goes_on d.place d.so_far line ≡ Some next → step d ws ≡ unless_wrong next (wrong d.so_far line)
+  pub step_on : (line : Line) (next : Draft) → said ws ≡ Some line → goes_on d.place d.so_far line ≡ Some next → step d ws
+      ≡ unless_wrong next (wrong d.so_far line)
   unfolding step
   step_on line next s g = cond-false _ _ _ counts ∙ ap (unless_unsaid d) s ∙ ap (unless_misplaced d line) g
 
@@ -71,12 +72,14 @@ read_start text = refl
 
 -- the lines read so far leave these, of which the first has number n
 module _ (text : List ℕ) (d : Draft) (n : ℕ) (lines : List (List ℕ)) (same : read_from d n lines ≡ reading text) where
-  pub read_more : (line : List ℕ) (rest : List (List ℕ)) (next : Draft) → lines ≡ line ∷ rest → step d (words line) ≡ Ok next → read_from next (n + 1) rest ≡ reading text
+  pub read_more : (line : List ℕ) (rest : List (List ℕ)) (next : Draft) → lines ≡ line ∷ rest → step d (words line) ≡ Ok next
+      → read_from next (n + 1) rest ≡ reading text
   unfolding read_from
   read_more line rest next e s =
       sym (ap (read_from d n) e ∙ ap (going_on n (λ next. read_from next (n + 1) rest)) s) ∙ same
 
-  pub read_fault : (line : List ℕ) (rest : List (List ℕ)) (reason : Reason) → lines ≡ line ∷ rest → step d (words line) ≡ Err reason → fault text ≡ Some (fault_at n reason)
+  pub read_fault : (line : List ℕ) (rest : List (List ℕ)) (reason : Reason) → lines ≡ line ∷ rest → step d (words line) ≡ Err reason
+      → fault text ≡ Some (fault_at n reason)
   unfolding read_from fault
   read_fault line rest reason e s =
       ap error_of (sym same ∙ ap (read_from d n) e ∙ ap (going_on n (λ next. read_from next (n + 1) rest)) s)
@@ -105,6 +108,7 @@ gives_step (Err NoMemory) reader draft step right gives = tt
 
 -- what is wrong with a line is the fault of the text
 pub tells_fault : (stop : Stop) (reader : Reader) (step : Result Draft Reason) (n : ℕ) (found : Option Fault)
-    → ((reason : Reason) → step ≡ Err reason → found ≡ Some (fault_at n reason)) → GivesStep (Err stop) reader step → TellsFault (error_at n stop) found
+    → ((reason : Reason) → step ≡ Err reason → found ≡ Some (fault_at n reason)) → GivesStep (Err stop) reader step
+    → TellsFault (error_at n stop) found
 tells_fault (Faulty reason) reader step n found faulty gives = faulty reason gives
 tells_fault NoMemory reader step n found faulty gives = tt

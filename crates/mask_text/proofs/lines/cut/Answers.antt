@@ -4,11 +4,13 @@ use Rattle.mask_text.proofs.Pieces.{cut_at, cut_none}
 use Rattle.mask_text.proofs.lines.cut.Goals as goal
 
 pub returns-then-byte-separator : goal.returns-then-byte-separator
-returns-then-byte-separator c = cut_at c.args.separator c.args.bytes.now c.loop-index.index (omega arith) c.loop-index.invariant c.if-byte-separator.true
+returns-then-byte-separator c = cut_at c.args.separator c.args.bytes.now c.loop-index.index (omega arith) c.loop-index.invariant
+    c.if-byte-separator.true
 
 pub loop-index-preserved : goal.loop-index-preserved
 loop-index-preserved c =
-    All-more (λ b. eqb b c.args.separator ≡ false) c.args.bytes.now c.loop-index.index 0 (omega arith) c.loop-index.invariant (ne_eqb _ _ c.if-byte-separator.false)
+    All-more (λ b. eqb b c.args.separator ≡ false) c.args.bytes.now c.loop-index.index 0 (omega arith) c.loop-index.invariant
+    (ne_eqb _ _ c.if-byte-separator.false)
 
 pub returns : goal.returns
 returns c =

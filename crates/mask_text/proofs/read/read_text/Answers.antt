@@ -18,8 +18,10 @@ loop-line-init c = record {
 
 pub returns-in-Err-clause-bad : goal.returns-in-Err-clause-bad
 returns-in-Err-clause-bad c =
-    let told = tells_fault c.in-Err.stop c.line.new.self (step (draft_of c.loop-line.reader) (words c.in-Some.line.now)) c.loop-line.number (fault c.args.text.now)
-    (λ reason s. read_fault c.args.text.now (draft_of c.loop-line.reader) c.loop-line.number _ c.loop-line.invariant.same _ _ reason c.in-Some.ensures.0 s) c.in-Err.ensures in
+    let told = tells_fault c.in-Err.stop c.line.new.self (step (draft_of c.loop-line.reader) (words c.in-Some.line.now)) c.loop-line.number
+    (fault c.args.text.now)
+    (λ reason s. read_fault c.args.text.now (draft_of c.loop-line.reader) c.loop-line.number _ c.loop-line.invariant.same _ _ reason
+    c.in-Some.ensures.0 s) c.in-Err.ensures in
     subst (λ (e : TextError). TellsFault e (fault c.args.text.now)) (sym c.at.ensures) told
 
 pub loop-line-preserved : goal.loop-line-preserved
@@ -27,7 +29,8 @@ loop-line-preserved c =
     let few = c.loop-line.invariant.few in
     let shorter = c.in-Some.ensures.1 in
     record {
-      same = read_more c.args.text.now (draft_of c.loop-line.reader) c.loop-line.number _ c.loop-line.invariant.same _ _ _ c.in-Some.ensures.0 c.in_default-line.ensures.0;
+      same = read_more c.args.text.now (draft_of c.loop-line.reader) c.loop-line.number _ c.loop-line.invariant.same _ _ _
+          c.in-Some.ensures.0 c.in_default-line.ensures.0;
       reads = c.in_default-line.ensures.1;
       few = omega arith;
     }

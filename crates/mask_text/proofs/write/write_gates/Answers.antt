@@ -11,7 +11,8 @@ loop-gate-preserved g c =
     let later = c.in_ok-write_all.ensures.never_falls in
     let before = c.loop-gate.invariant.never_falls in
     record {
-      sent = line-sent Makes c.args.gates.now c.loop-gate.gate-index (get_or c.args.gates.now c.loop-gate.gate-index Zero) Zero c.loop-gate-test.true refl _ _ _ c.deref.result.now _ piece c.loop-gate.invariant.sent c.in_ok-write_all.ensures.whole;
+      sent = line-sent Makes c.args.gates.now c.loop-gate.gate-index (get_or c.args.gates.now c.loop-gate.gate-index Zero) Zero
+          c.loop-gate-test.true refl _ _ _ c.deref.result.now _ piece c.loop-gate.invariant.sent c.in_ok-write_all.ensures.whole;
       never_falls = omega arith;
     }
 
@@ -21,7 +22,8 @@ returns-in_err-write_all-clause-sends g c =
     let stopped = err_from_is_err_and c.from_residual.result c.from_residual.ensures.1 in
     rw stopped.1 (
       rose_later _ _ _ c.loop-gate.invariant.never_falls c.in_err-write_all.ensures.rose,
-      line-stopped Makes c.args.gates.now c.loop-gate.gate-index (get_or c.args.gates.now c.loop-gate.gate-index Zero) Zero c.loop-gate-test.true refl _ _ _ c.deref.result.now _ piece c.loop-gate.invariant.sent c.in_err-write_all.ensures.part,
+      line-stopped Makes c.args.gates.now c.loop-gate.gate-index (get_or c.args.gates.now c.loop-gate.gate-index Zero) Zero
+          c.loop-gate-test.true refl _ _ _ c.deref.result.now _ piece c.loop-gate.invariant.sent c.in_err-write_all.ensures.part,
     )
 
 pub returns-clause-sends : goal.returns-clause-sends

@@ -10,12 +10,15 @@ pub loop-group-preserved : goal.loop-group-preserved
 loop-group-preserved g c =
     let piece : c.deref.result.now ≡ spaced (line_words (Input c.group-item.result.name c.group-item.result.size)) ++ 10 ∷ [] =
     c.deref.ensures.0 ∙ c.named.ensures
-    ∙ ap (λ (name : List ℕ). spaced (codes "input" ∷ (name ∷ (decimal c.group.inside.size ∷ []))) ++ 10 ∷ []) (c.as_bytes.ensures.value ∙ c.as_str.ensures.value)
+    ∙ ap (λ (name : List ℕ). spaced (codes "input" ∷ (name ∷ (decimal c.group.inside.size ∷ []))) ++ 10 ∷ [])
+    (c.as_bytes.ensures.value ∙ c.as_str.ensures.value)
     ∙ ap (λ (h : NamedGroup). spaced (line_words (Input h.name h.size)) ++ 10 ∷ []) c.group.view_is in
     let later = c.in_ok-write_all.ensures.never_falls in
     let before = c.loop-group.invariant.never_falls in
     record {
-      sent = line-sent (λ g. Input g.name g.size) c.args.groups.now c.loop-group.group-index c.group-item.result c.group-item.result c.loop-group-test.true c.group-item.is _ _ _ c.deref.result.now _ piece c.loop-group.invariant.sent c.in_ok-write_all.ensures.whole;
+      sent = line-sent (λ g. Input g.name g.size) c.args.groups.now c.loop-group.group-index c.group-item.result c.group-item.result
+          c.loop-group-test.true c.group-item.is _ _ _ c.deref.result.now _ piece c.loop-group.invariant.sent
+          c.in_ok-write_all.ensures.whole;
       never_falls = omega arith;
     }
 
@@ -23,13 +26,17 @@ pub returns-in_err-write_all-clause-sends : goal.returns-in_err-write_all-clause
 returns-in_err-write_all-clause-sends g c =
     let piece : c.deref.result.now ≡ spaced (line_words (Input c.group-item.result.name c.group-item.result.size)) ++ 10 ∷ [] =
     c.deref.ensures.0 ∙ c.named.ensures
-    ∙ ap (λ (name : List ℕ). spaced (codes "input" ∷ (name ∷ (decimal c.group.inside.size ∷ []))) ++ 10 ∷ []) (c.as_bytes.ensures.value ∙ c.as_str.ensures.value)
+    ∙ ap (λ (name : List ℕ). spaced (codes "input" ∷ (name ∷ (decimal c.group.inside.size ∷ []))) ++ 10 ∷ [])
+    (c.as_bytes.ensures.value ∙ c.as_str.ensures.value)
     ∙ ap (λ (h : NamedGroup). spaced (line_words (Input h.name h.size)) ++ 10 ∷ []) c.group.view_is in
     let stopped = err_from_is_err_and c.from_residual.result c.from_residual.ensures.1 in
     rw stopped.1 (
       rose_later _ _ _ c.loop-group.invariant.never_falls c.in_err-write_all.ensures.rose,
-      line-stopped (λ g. Input g.name g.size) c.args.groups.now c.loop-group.group-index c.group-item.result c.group-item.result c.loop-group-test.true c.group-item.is _ _ _ c.deref.result.now _ piece c.loop-group.invariant.sent c.in_err-write_all.ensures.part,
+      line-stopped (λ g. Input g.name g.size) c.args.groups.now c.loop-group.group-index c.group-item.result c.group-item.result
+          c.loop-group-test.true c.group-item.is _ _ _ c.deref.result.now _ piece c.loop-group.invariant.sent
+          c.in_err-write_all.ensures.part,
     )
 
 pub returns-clause-sends : goal.returns-clause-sends
-returns-clause-sends g c = lines-sent (λ g. Input g.name g.size) c.args.groups.now c.loop-group.group-index _ _ _ (omega arith) c.loop-group.invariant.sent
+returns-clause-sends g c = lines-sent (λ g. Input g.name g.size) c.args.groups.now c.loop-group.group-index _ _ _ (omega arith)
+    c.loop-group.invariant.sent

@@ -12,21 +12,28 @@ pub loop-group-preserved : goal.loop-group-preserved
 loop-group-preserved g c =
     let piece : c.deref.result.now ≡ spaced (line_words (Output c.group-item.result.name c.group-item.result.size)) ++ 10 ∷ [] =
     c.deref.ensures.0 ∙ c.named.ensures
-    ∙ ap (λ (name : List ℕ). spaced (codes "output" ∷ (name ∷ (decimal c.group.inside.size ∷ []))) ++ 10 ∷ []) (c.as_bytes.ensures.value ∙ c.as_str.ensures.value)
+    ∙ ap (λ (name : List ℕ). spaced (codes "output" ∷ (name ∷ (decimal c.group.inside.size ∷ []))) ++ 10 ∷ [])
+    (c.as_bytes.ensures.value ∙ c.as_str.ensures.value)
     ∙ ap (λ (h : NamedGroup). spaced (line_words (Output h.name h.size)) ++ 10 ∷ []) c.group.view_is in
     let size = ap (λ (h : NamedGroup). h.size) c.group.view_is in
     let front = c.split_at.ensures.front ∙ ap (λ (n : ℕ). take n c.loop-group.rest.now) size in
-    let line = group-named c.args.groups.now c.loop-group.group-index c.group-item.result c.group-item.result c.loop-group-test.true c.group-item.is _ _ _ c.loop-group.rest.now c.deref.result.now _ piece c.loop-group.invariant.sent c.in_ok-write_all.ensures.whole in
+    let line = group-named c.args.groups.now c.loop-group.group-index c.group-item.result c.group-item.result c.loop-group-test.true
+    c.group-item.is _ _ _ c.loop-group.rest.now c.deref.result.now _ piece c.loop-group.invariant.sent c.in_ok-write_all.ensures.whole
+    in
     let back = c.split_at.ensures.back ∙ ap (λ (n : ℕ). drop n c.loop-group.rest.now) size in
-    let outs = subst (λ (us : List ℕ). Appends (g.O.Sink.written c.write_all.new.sink) (g.O.Sink.written c.write_outs.new.sink) (spelling (map Out us))) front c.in_ok-write_outs.ensures.sends in
+    let outs = subst (λ (us : List ℕ). Appends (g.O.Sink.written c.write_all.new.sink) (g.O.Sink.written c.write_outs.new.sink)
+    (spelling (map Out us))) front c.in_ok-write_outs.ensures.sends in
     let sent = sent-more _ _ _ (spelling (map Out (take c.group-item.result.size c.loop-group.rest.now))) _ _ line outs in
     let first = c.in_ok-write_all.ensures.never_falls in
     let later = c.in_ok-write_outs.ensures.never_falls in
     let before = c.loop-group.invariant.never_falls in
     record {
-      sent = subst (λ (us : List ℕ). Sent (g.O.Sink.written c.args.sink.now) (g.O.Sink.written c.write_outs.new.sink) (spelling (output_lines (drop (c.loop-group.group-index + 1) c.args.groups.now) us)) (spelling (output_lines c.args.groups.now c.args.outputs.now))) (sym back) sent;
+      sent = subst (λ (us : List ℕ). Sent (g.O.Sink.written c.args.sink.now) (g.O.Sink.written c.write_outs.new.sink)
+          (spelling (output_lines (drop (c.loop-group.group-index + 1) c.args.groups.now) us))
+          (spelling (output_lines c.args.groups.now c.args.outputs.now))) (sym back) sent;
       enough = subst (λ (us : List ℕ). sizes (drop (c.loop-group.group-index + 1) c.args.groups.now) ≤ length us) (sym back)
-          (groups_within c.args.groups.now c.loop-group.group-index c.group-item.result c.group-item.result c.loop-group-test.true c.group-item.is c.loop-group.rest.now c.loop-group.invariant.enough);
+          (groups_within c.args.groups.now c.loop-group.group-index c.group-item.result c.group-item.result c.loop-group-test.true
+          c.group-item.is c.loop-group.rest.now c.loop-group.invariant.enough);
       never_falls = omega arith;
     }
 
@@ -34,27 +41,34 @@ pub returns-in_err-write_all-clause-sends : goal.returns-in_err-write_all-clause
 returns-in_err-write_all-clause-sends g c =
     let piece : c.deref.result.now ≡ spaced (line_words (Output c.group-item.result.name c.group-item.result.size)) ++ 10 ∷ [] =
     c.deref.ensures.0 ∙ c.named.ensures
-    ∙ ap (λ (name : List ℕ). spaced (codes "output" ∷ (name ∷ (decimal c.group.inside.size ∷ []))) ++ 10 ∷ []) (c.as_bytes.ensures.value ∙ c.as_str.ensures.value)
+    ∙ ap (λ (name : List ℕ). spaced (codes "output" ∷ (name ∷ (decimal c.group.inside.size ∷ []))) ++ 10 ∷ [])
+    (c.as_bytes.ensures.value ∙ c.as_str.ensures.value)
     ∙ ap (λ (h : NamedGroup). spaced (line_words (Output h.name h.size)) ++ 10 ∷ []) c.group.view_is in
     let stopped = err_from_is_err_and c.from_residual.result c.from_residual.ensures.1 in
     rw stopped.1 (
       rose_later _ _ _ c.loop-group.invariant.never_falls c.in_err-write_all.ensures.rose,
-      group-stopped c.args.groups.now c.loop-group.group-index c.group-item.result c.group-item.result c.loop-group-test.true c.group-item.is _ _ _ c.loop-group.rest.now c.deref.result.now _ piece c.loop-group.invariant.sent c.in_err-write_all.ensures.part,
+      group-stopped c.args.groups.now c.loop-group.group-index c.group-item.result c.group-item.result c.loop-group-test.true
+          c.group-item.is _ _ _ c.loop-group.rest.now c.deref.result.now _ piece c.loop-group.invariant.sent
+          c.in_err-write_all.ensures.part,
     )
 
 pub returns-in_err-write_outs-clause-sends : goal.returns-in_err-write_outs-clause-sends
 returns-in_err-write_outs-clause-sends g c =
     let piece : c.deref.result.now ≡ spaced (line_words (Output c.group-item.result.name c.group-item.result.size)) ++ 10 ∷ [] =
     c.deref.ensures.0 ∙ c.named.ensures
-    ∙ ap (λ (name : List ℕ). spaced (codes "output" ∷ (name ∷ (decimal c.group.inside.size ∷ []))) ++ 10 ∷ []) (c.as_bytes.ensures.value ∙ c.as_str.ensures.value)
+    ∙ ap (λ (name : List ℕ). spaced (codes "output" ∷ (name ∷ (decimal c.group.inside.size ∷ []))) ++ 10 ∷ [])
+    (c.as_bytes.ensures.value ∙ c.as_str.ensures.value)
     ∙ ap (λ (h : NamedGroup). spaced (line_words (Output h.name h.size)) ++ 10 ∷ []) c.group.view_is in
     let size = ap (λ (h : NamedGroup). h.size) c.group.view_is in
     let front = c.split_at.ensures.front ∙ ap (λ (n : ℕ). take n c.loop-group.rest.now) size in
-    let line = group-named c.args.groups.now c.loop-group.group-index c.group-item.result c.group-item.result c.loop-group-test.true c.group-item.is _ _ _ c.loop-group.rest.now c.deref.result.now _ piece c.loop-group.invariant.sent c.in_ok-write_all.ensures.whole in
+    let line = group-named c.args.groups.now c.loop-group.group-index c.group-item.result c.group-item.result c.loop-group-test.true
+    c.group-item.is _ _ _ c.loop-group.rest.now c.deref.result.now _ piece c.loop-group.invariant.sent c.in_ok-write_all.ensures.whole
+    in
     let first = c.in_ok-write_all.ensures.never_falls in
     let before = c.loop-group.invariant.never_falls in
     let failed = c.in_err-write_outs.ensures.sends in
-    let part = subst (λ (us : List ℕ). AppendsProperPrefix (g.O.Sink.written c.write_all.new.sink) (g.O.Sink.written c.write_outs.new.sink) (spelling (map Out us))) front failed.1 in
+    let part = subst (λ (us : List ℕ). AppendsProperPrefix (g.O.Sink.written c.write_all.new.sink) (g.O.Sink.written c.write_outs.new.sink)
+    (spelling (map Out us))) front failed.1 in
     let stopped = err_from_is_err_and c.from_residual-in_err-write_outs.result c.from_residual-in_err-write_outs.ensures.1 in
     rw stopped.1 (
       rose_later _ _ _ (omega arith) failed.0,
@@ -62,4 +76,5 @@ returns-in_err-write_outs-clause-sends g c =
     )
 
 pub returns-clause-sends : goal.returns-clause-sends
-returns-clause-sends g c = groups-sent c.args.groups.now c.loop-group.group-index c.loop-group.rest.now _ _ _ (omega arith) c.loop-group.invariant.sent
+returns-clause-sends g c = groups-sent c.args.groups.now c.loop-group.group-index c.loop-group.rest.now _ _ _ (omega arith)
+    c.loop-group.invariant.sent

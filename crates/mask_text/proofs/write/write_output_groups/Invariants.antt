@@ -6,7 +6,8 @@ use Rattle.mask_text.proofs.write.write_output_groups.Given as goal
 
 abbrev pub invariant-loop-group : goal.invariant-loop-group
 invariant-loop-group g l = record {
-  sent : Sent (g.O.Sink.written l.initial.sink) (g.O.Sink.written l.sink) (spelling (output_lines (drop l.group-index l.groups) l.rest)) (spelling (output_lines l.groups l.fn.outputs));
+  sent : Sent (g.O.Sink.written l.initial.sink) (g.O.Sink.written l.sink) (spelling (output_lines (drop l.group-index l.groups) l.rest))
+      (spelling (output_lines l.groups l.fn.outputs));
   enough : sizes (drop l.group-index l.groups) ≤ length l.rest;
   never_falls : g.O.Sink.faults l.initial.sink ≤ g.O.Sink.faults l.sink;
 }

@@ -10,7 +10,8 @@ loop-value-preserved g c =
     let later = c.in_ok-write_all.ensures.never_falls in
     let before = c.loop-value.invariant.never_falls in
     record {
-      sent = line-sent Out c.args.outputs.now c.loop-value.value-index (get_or c.args.outputs.now c.loop-value.value-index 0) 0 c.loop-value-test.true refl _ _ _ c.deref.result.now _ piece c.loop-value.invariant.sent c.in_ok-write_all.ensures.whole;
+      sent = line-sent Out c.args.outputs.now c.loop-value.value-index (get_or c.args.outputs.now c.loop-value.value-index 0) 0
+          c.loop-value-test.true refl _ _ _ c.deref.result.now _ piece c.loop-value.invariant.sent c.in_ok-write_all.ensures.whole;
       never_falls = omega arith;
     }
 
@@ -20,7 +21,8 @@ returns-in_err-write_all-clause-sends g c =
     let stopped = err_from_is_err_and c.from_residual.result c.from_residual.ensures.1 in
     rw stopped.1 (
       rose_later _ _ _ c.loop-value.invariant.never_falls c.in_err-write_all.ensures.rose,
-      line-stopped Out c.args.outputs.now c.loop-value.value-index (get_or c.args.outputs.now c.loop-value.value-index 0) 0 c.loop-value-test.true refl _ _ _ c.deref.result.now _ piece c.loop-value.invariant.sent c.in_err-write_all.ensures.part,
+      line-stopped Out c.args.outputs.now c.loop-value.value-index (get_or c.args.outputs.now c.loop-value.value-index 0) 0
+          c.loop-value-test.true refl _ _ _ c.deref.result.now _ piece c.loop-value.invariant.sent c.in_err-write_all.ensures.part,
     )
 
 pub returns-clause-sends : goal.returns-clause-sends

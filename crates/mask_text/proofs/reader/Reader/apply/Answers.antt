@@ -5,13 +5,16 @@ pub set_inputs-requires-clause-few : goal.set_inputs-requires-clause-few
 set_inputs-requires-clause-few c = few_inputs c.args.self.now c.args.said c.requires.reading c.requires.follows c.requires.right _ c.in-Inputs.is
 
 pub add_input-requires-clause-no_gates : goal.add_input-requires-clause-no_gates
-add_input-requires-clause-no_gates c = (before_gates c.args.self.now c.args.said c.requires.reading c.requires.follows c.requires.right _ _ c.in-Input.is).gates
+add_input-requires-clause-no_gates c = (before_gates c.args.self.now c.args.said c.requires.reading c.requires.follows c.requires.right _ _
+    c.in-Input.is).gates
 
 pub add_input-requires-clause-no_outputs : goal.add_input-requires-clause-no_outputs
-add_input-requires-clause-no_outputs c = (before_gates c.args.self.now c.args.said c.requires.reading c.requires.follows c.requires.right _ _ c.in-Input.is).outputs
+add_input-requires-clause-no_outputs c = (before_gates c.args.self.now c.args.said c.requires.reading c.requires.follows c.requires.right _
+    _ c.in-Input.is).outputs
 
 pub add_input-requires-clause-few : goal.add_input-requires-clause-few
-add_input-requires-clause-few c = (before_gates c.args.self.now c.args.said c.requires.reading c.requires.follows c.requires.right _ _ c.in-Input.is).few
+add_input-requires-clause-few c = (before_gates c.args.self.now c.args.said c.requires.reading c.requires.follows c.requires.right _ _
+    c.in-Input.is).few
 
 pub add_gate-requires : goal.add_gate-requires
 add_gate-requires c = record { known = known_gate c.args.self.now c.args.said c.requires.reading c.requires.follows c.requires.right _ c.in-Makes.is }
@@ -29,7 +32,8 @@ pub returns-in-Second : goal.returns-in-Second
 returns-in-Second c = took_second c.args.self.now c.args.said c.requires.reading c.requires.follows c.requires.right c.in-Second.is
 
 pub returns-in_ok-set_inputs-in-Inputs : goal.returns-in_ok-set_inputs-in-Inputs
-returns-in_ok-set_inputs-in-Inputs c = took_inputs c.args.self.now c.args.said c.requires.reading c.requires.follows c.requires.right _ c.set_inputs.new.self c.in-Inputs.is c.in_ok-set_inputs-in-Inputs.ensures
+returns-in_ok-set_inputs-in-Inputs c = took_inputs c.args.self.now c.args.said c.requires.reading c.requires.follows c.requires.right _
+    c.set_inputs.new.self c.in-Inputs.is c.in_ok-set_inputs-in-Inputs.ensures
 
 pub returns-in_ok-add_input-in-Input : goal.returns-in_ok-add_input-in-Input
 returns-in_ok-add_input-in-Input c =

@@ -17,7 +17,8 @@ returns-then-not-may_follow c =
 pub returns-in-Some-wrong : goal.returns-in-Some-wrong
 returns-in-Some-wrong c =
     let next = some_left _ (sym c.may_follow.ensures ∙ c.if-not-may_follow.false) in
-    step_wrong (draft_of c.args.self.now) (words_of c.args.line.now) c.requires.counts (line_of c.in-Some.said) next.0 c.in-Some-wrong.reason (sym c.in-Some.ensures)
+    step_wrong (draft_of c.args.self.now) (words_of c.args.line.now) c.requires.counts (line_of c.in-Some.said) next.0
+    c.in-Some-wrong.reason (sym c.in-Some.ensures)
     next.1 (sym c.in-Some-wrong.ensures)
 
 pub apply-requires-clause-in_form : goal.apply-requires-clause-in_form
@@ -26,6 +27,7 @@ apply-requires-clause-in_form c = in_form _ _ (sym c.in-Some.ensures)
 pub returns : goal.returns
 returns c =
     gives_step c.apply.result c.apply.new.self _ _
-    (λ next goes. step_right (draft_of c.args.self.now) (words_of c.args.line.now) c.requires.counts (line_of c.in-Some.said) next (sym c.in-Some.ensures)
+    (λ next goes. step_right (draft_of c.args.self.now) (words_of c.args.line.now) c.requires.counts (line_of c.in-Some.said) next
+    (sym c.in-Some.ensures)
     goes (sym c.in_default-wrong.ensures))
     c.apply.ensures
