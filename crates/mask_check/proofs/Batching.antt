@@ -10,34 +10,13 @@ use Rattle.mask_circuit.specs.Netlist.{Netlist, IsCircuit, value_count}
 use Rattle.mask_circuit.specs.Acceptance.{gate_at}
 use Rattle.mask_laws.proofs.GateAt.{gate_at_operands}
 use Rattle.mask_check.specs.declared.batches.Batch.{Batch}
-use Rattle.mask_check.specs.Marks.{IsMarked, IsClearFrom, with_marks}
+use Rattle.mask_check.specs.Marks.{IsMarked, with_marks}
 use Rattle.mask_check.specs.Batches.{product_at, products_below, IsProduct, IsBatch, batch_after, left_after, right_after}
 use Rattle.mask_check.proofs.Words.{HasBit-pow, HasBit-pow_only}
 use Rattle.mask_check.proofs.Marking.{length-with_marks, with_marks-other, with_marks-kept, with_marks-new, with_marks-only}
-use Rattle.mask_check.proofs.Passing.{unmarked}
 
 pub products_below-more : (c : Netlist) (n : ℕ) → products_below c (n + 1) ≡ products_below c n + product_at (gate_at c n)
 products_below-more c n = let e : n + 1 ≡ suc n = omega arith in subst (λ (m : ℕ). products_below c m ≡ products_below c n + product_at (gate_at c n)) (sym e) refl
-
--- the empty batch, where no value has a mark
-pub IsBatch-start : (c : Netlist) (left right ps : List ℕ) (n : ℕ) → n ≤ value_count c → length ps ≡ 64 → length left ≡ value_count c → length right ≡ value_count c →
-    IsClearFrom 0 left → IsClearFrom 0 right → IsBatch c (record { from = n; until = n; products = ps; count = 0 }) left right
-IsBatch-start c left right ps n within room left_size right_size left_clear right_clear = record {
-  few = omega arith;
-  room = room;
-  from = omega arith;
-  until = within;
-  left_size = left_size;
-  right_size = right_size;
-  left_clear = λ v le. left_clear v (omega arith);
-  right_clear = λ v le. right_clear v (omega arith);
-  are_products = λ j lt. absurd (omega arith);
-  rising = λ i j lt few. absurd (omega arith);
-  all = λ p u v from lt is. absurd (omega arith);
-  left_only = λ w j h. absurd (unmarked left w j (left_clear w (omega arith)) h);
-  right_only = λ w j h. absurd (unmarked right w j (right_clear w (omega arith)) h);
-  counted = omega arith;
-}
 
 -- the next value is no product
 skip : (c : Netlist) (b : Batch) (left right : List ℕ) (g : Option Gate) → b.until < value_count c → gate_at c b.until ≡ g → product_at g ≡ 0 →

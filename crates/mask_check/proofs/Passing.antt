@@ -111,7 +111,7 @@ IsPassed-start : (c : Netlist) (start : List ℕ) (v : ℕ) → length start ≡
 IsPassed-start c start v size clear = record { size = size; clear = clear; goes = λ j s lt h. h; comes = λ j s lt h. h }
 
 -- an empty word has no mark
-pub unmarked : (words : List ℕ) (v j : ℕ) → get_or words v 0 ≡ 0 → IsMarked words v j → ⊥
+unmarked : (words : List ℕ) (v j : ℕ) → get_or words v 0 ≡ 0 → IsMarked words v j → ⊥
 unmarked words v j e h = HasBit-none _ j e h.bit
 
 -- the word of value v is taken
