@@ -1,5 +1,5 @@
 -- The reading of bytes as they come one by one.
-use Rattle.std.proofs.Common.{◌≡◌, ℕ, zero, suc, ◌+◌, ◌-◌, ◌*◌, ◌%◌, ◌^◌, ◌<◌, ◌≤◌, Bool, false, List, [], ◌∷◌, ◌++◌, length, take, drop, get_or, replicate, reverse, fold, zero-add, min, length-drop, lit<, take-append-drop, refl, sym, ap, ◌∙◌, arith, append_assoc, append-nil, length-append}
+use Rattle.std.proofs.Common.{◌≡◌, ℕ, zero, suc, ◌+◌, ◌-◌, ◌*◌, ◌%◌, ◌^◌, ◌<◌, Bool, false, List, [], ◌∷◌, ◌++◌, length, take, drop, get_or, replicate, reverse, fold, zero-add, min, length-drop, lit<, take-append-drop, refl, sym, ap, ◌∙◌, arith, append_assoc, append-nil, length-append}
 use Rattle.mask_bits.specs.Reading.{bit, lowest, low, high, number, big_endian}
 use Rattle.mask_bits.proofs.Numbers.{length-lowest, get_or-lowest, number-append, number-lowest}
 use Rattle.std.proofs.lemmas.List.{take_more, get_or-append-add, length-take-le, reverse-append, length-reverse}

@@ -1,5 +1,5 @@
 -- The bits of a number, and the number of bits.
-use Rattle.std.proofs.Common.{◌≡◌, ℕ, zero, suc, ◌+◌, ◌-◌, ◌*◌, ◌/◌, ◌%◌, ◌^◌, ◌<◌, ◌≤◌, Bool, true, false, nat_eq, List, [], ◌∷◌, ◌++◌, length, take, get_or, replicate, refl, sym, ap, ◌∙◌, arith, lit<, append_assoc, length-append, add-one, if◌then◌else◌}
+use Rattle.std.proofs.Common.{◌≡◌, ℕ, zero, suc, ◌+◌, ◌-◌, ◌*◌, ◌/◌, ◌%◌, ◌^◌, ◌<◌, ◌≤◌, Bool, true, false, nat_eq, List, [], ◌∷◌, ◌++◌, length, take, get_or, replicate, refl, sym, ap, arith, lit<, append_assoc, length-append, add-one, if◌then◌else◌}
 use Rattle.std.proofs.Math.Nat.{pow-suc, mod-eq_of_lt}
 use Rattle.std.proofs.lemmas.Nat.{pow_pos}
 use Rattle.std.proofs.Math.Arith.{mod-mul}
@@ -64,23 +64,27 @@ lowest-number (suc n) (b ∷ bits) fits =
     let left : suc n - suc (length bits) ≡ n - length bits = omega arith in
     rw (lowest-cons n (number (b ∷ bits)), parity b (number bits), half b (number bits), lowest-number n bits shorter, left) refl
 
+-- what the place past one bit more weighs
+power_more : (bits : List Bool) → 2 ^ suc (length bits) ≡ 2 ^ length bits * 2
+power_more bits = pow-suc 2 (length bits)
+
 -- a number of n bits is below 2 ^ n
 pub number-lt : (bits : List Bool) → number bits < 2 ^ length bits
 number-lt [] = omega arith
-number-lt (true ∷ bits) = let h = number-lt bits in let e : 2 ^ suc (length bits) ≡ 2 ^ length bits * 2 = pow-suc 2 (length bits) in rw e (omega arith)
-number-lt (false ∷ bits) = let h = number-lt bits in let e : 2 ^ suc (length bits) ≡ 2 ^ length bits * 2 = pow-suc 2 (length bits) in rw e (omega arith)
+number-lt (true ∷ bits) = let h = number-lt bits in rw (power_more bits) (omega arith)
+number-lt (false ∷ bits) = let h = number-lt bits in rw (power_more bits) (omega arith)
 
 -- bits after others weigh more
 pub number-append : (xs ys : List Bool) → number (xs ++ ys) ≡ number xs + 2 ^ length xs * number ys
 number-append [] ys = omega arith
-number-append (x ∷ xs) ys =
-    let e : 2 ^ suc (length xs) ≡ 2 ^ length xs * 2 = pow-suc 2 (length xs) in
-    rw (number-append xs ys, e) (omega arith)
+number-append (x ∷ xs) ys = rw (number-append xs ys, power_more xs) (omega arith)
 
 -- one bit more
 pub number-more : (bits : List Bool) (i : ℕ) → i < length bits
     → number (take (i + 1) bits) ≡ number (take i bits) + (if get_or bits i false then 1 else 0) * 2 ^ i
-number-more bits i h = let within : i ≤ length bits = omega arith in rw (take_more bits i false h, number-append (take i bits) (get_or bits i false ∷ []), length-take-le i bits) (omega arith)
+number-more bits i h =
+    let within : i ≤ length bits = omega arith in
+    rw (take_more bits i false h, number-append (take i bits) (get_or bits i false ∷ []), length-take-le i bits) (omega arith)
 
 -- what a bit weighs at place 0
 worth_of : (n : ℕ) → n < 2 → (if nat_eq n 1 then 1 else 0) ≡ n

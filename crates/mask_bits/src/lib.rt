@@ -7,6 +7,8 @@
 mod bits;
 mod readings;
 mod square;
+#[cfg(test)]
+mod tests;
 
 pub use bits::Bits;
 pub use readings::{bits_high_first, bits_low_first, bytes_of_high, bytes_of_low};

@@ -1,6 +1,6 @@
 //! Bytes as bits, and bits as bytes.
 
-ghost use Rattle.std.specs.Prelude.{◌≡◌, ℕ, ◌+◌, ◌-◌, ◌*◌, ◌^◌, ◌<◌, ◌≤◌, false, ◌++◌, length, replicate, slice_index, slice_index_or, IfOk, OnOk};
+ghost use Rattle.std.specs.Prelude.{◌≡◌, ℕ, ◌+◌, ◌-◌, ◌*◌, ◌<◌, ◌≤◌, false, ◌++◌, length, replicate, slice_index, slice_index_or, IfOk, OnOk};
 ghost use Rattle.mask_bits.specs.Reading.{bit, lowest, low, high, number, big_endian, IsPadded};
 
 use crate::Bits;

@@ -7,6 +7,7 @@ ghost use Rattle.mask_bits.specs.Square.{IsTransposed, IsWidth, IsMask, IsExchan
 pub fn transpose_64(rows: &mut [u64; 64])
     ensures { IsTransposed rows.old rows.new }
 {
+    // By ever smaller blocks (Warren, "Hacker's Delight", 2nd edition 2013, section 7-3).
     exchange(rows, 32, 0x0000_0000_ffff_ffff);
     exchange(rows, 16, 0x0000_ffff_0000_ffff);
     exchange(rows, 8, 0x00ff_00ff_00ff_00ff);

@@ -26,7 +26,7 @@ is_in_name b = is_letter b || ((nat_le 48 b && nat_le b 57) || b == 45)
 -- 1 to 16 letters, digits and hyphens, of which the first is a letter
 unfoldable pub is_name : List ℕ → Bool
 is_name [] = false
-is_name (b ∷ bs) = is_letter b && (list_all is_in_name bs && nat_le (length bs) 15)
+is_name (b ∷ bs) = is_letter b && (nat_le (length bs) 15 && list_all is_in_name bs)
 
 -- some group has this name
 unfoldable pub is_taken : List ℕ → List NamedGroup → Bool

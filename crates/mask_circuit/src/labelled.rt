@@ -56,12 +56,19 @@ impl Labelled {
         Ok(Labelled::new(circuit, inputs, outputs))
     }
 
-    /// The circuit without its groups.
+    /// The circuit.
     pub fn circuit(&self) -> &Circuit
         ensures same { result.now ≡ self.now.circuit }
         ensures labelled { IsLabelled self.now }
     {
         &self.circuit
+    }
+
+    /// The circuit without its groups, which are dropped.
+    pub fn into_circuit(self) -> Circuit
+        ensures { result ≡ self.circuit }
+    {
+        self.circuit
     }
 
     /// The groups of inputs: the first stands for the first so many inputs, and so on.

@@ -1,6 +1,6 @@
 -- What contracts see of the objects in memory.
-use Rattle.std.specs.Prelude.{ℕ, Bool, List, if◌then◌else◌}
-use Rattle.mask_io.specs.Outside.{counted}
+use Rattle.std.specs.Prelude.{ℕ, Bool, List}
+use Rattle.mask_io.specs.Outside.{counted, faults_after}
 
 -- the numbers of the calls that fail, the number of calls made, and the count of faults
 pub record Script : Type 0 where
@@ -27,7 +27,12 @@ pub record Supply : Type 0 where
   pub wanted : ℕ
   pub script : Script
 
+-- a closed entropy: the count of faults, and what it wants
+pub record Refusals : Type 0 where
+  pub faults : ℕ
+  pub wanted : ℕ
+
 -- one more call was made, and it failed or didn't
 abbrev pub after_call : Script → Bool → Script
 after_call script failed =
-    record script { made = counted script.made; faults = if failed then counted script.faults else script.faults }
+    record script { made = counted script.made; faults = faults_after failed script.faults }

@@ -1,11 +1,15 @@
 -- The words for what reading, writing and drawing do to an object of the outside.
-use Rattle.std.specs.Prelude.{◌≡◌, ℕ, ◌+◌, ◌-◌, ◌^◌, ◌<◌, ◌≤◌, min, List, length, take, drop}
+use Rattle.std.specs.Prelude.{◌≡◌, ℕ, ◌+◌, ◌-◌, ◌^◌, ◌<◌, ◌≤◌, min, Bool, if◌then◌else◌, List, length, take, drop}
 use Rattle.std.specs.declared.option.Option.{Option}
 use Rattle.std.specs.Io.KnownBytes.{Appends, Consumes, IsAtEnd}
 
 -- one more, in a count of 64 bits that stays at its last value
 abbrev pub counted : ℕ → ℕ
 counted count = min (count + 1) (2 ^ 64 - 1)
+
+-- the count of faults after a call that failed or didn't
+abbrev pub faults_after : Bool → ℕ → ℕ
+faults_after failed faults = if failed then counted faults else faults
 
 -- a count is greater than before, or stands at its last value
 abbrev pub Rose : ℕ → ℕ → Type 0
@@ -44,8 +48,3 @@ IsProperPrefix front whole = (length front < length whole) × (take (length fron
 -- where a sink tells what was written, that grew by a part of the piece, and not by all of it
 abbrev pub AppendsProperPrefix : Option (List ℕ) → Option (List ℕ) → List ℕ → Type 0
 AppendsProperPrefix before now piece = (front : List ℕ) × IsProperPrefix front piece × Appends before now front
-
--- what a closed entropy, or a file as one, has refused: the count of faults, and the length of the latest buffer
-pub record Refusals : Type 0 where
-  pub faults : ℕ
-  pub wanted : ℕ

@@ -3,10 +3,11 @@
 //! They tell no bytes: what a file holds isn't known here. A write that is done and a flush that
 //! fails would break a promise on what was written, too.
 
-ghost use Rattle.std.specs.Prelude.{◌≡◌, ℕ, ◌<◌, length, None, IfOk, OnOk, OnErr, MatchResult, if◌then◌else◌};
+ghost use Rattle.std.specs.Prelude.{◌≡◌, length, take, None, IfOk, OnOk, OnErr, MatchResult};
 ghost use Rattle.std.specs.Result.{is_err};
 ghost use Rattle.std.specs.Io.{WritesAtMost};
-ghost use Rattle.mask_io.specs.Outside.{counted, NeverFalls, Gives, Accepts, Takes, Fails};
+ghost use Rattle.std.specs.Io.KnownBytes.{Appends, Consumes, ReadConsumes};
+ghost use Rattle.mask_io.specs.Outside.{faults_after, NeverFalls, Gives, Accepts, Takes, Fails};
 
 use crate::{Entropy, Failed, Sink, Source};
 use std::io::{self, Read, Write};
@@ -22,11 +23,11 @@ pub struct StdSource<R: Read> {
 }
 
 impl<R: Read> Model for StdSource<R> {
-    ghost use Rattle.std.specs.Prelude.{ℕ};
+    ghost use Rattle.mask_io.specs.Adapters.{Counted};
 
-    ghost Value = { ℕ };
+    ghost Value = { Counted R };
 
-    ghost view = { λ s. s.faults };
+    ghost view = { λ s. record { inner = s.inner; faults = s.faults } };
 }
 
 impl<R: Read> StdSource<R> {
@@ -34,6 +35,7 @@ impl<R: Read> StdSource<R> {
     pub fn new(inner: R) -> StdSource<R>
         ensures untold { ⟦<StdSource<R> as Source>⟧.left result ≡ None }
         ensures no_fault { ⟦<StdSource<R> as Source>⟧.faults result ≡ 0 }
+        ensures inner { result.inner ≡ inner }
     {
         StdSource { inner, faults: 0 }
     }
@@ -42,14 +44,18 @@ impl<R: Read> StdSource<R> {
 impl<R: Read> Source for StdSource<R> {
     ghost left = { λ _. None };
 
-    ghost faults = { λ s. s };
+    ghost faults = { λ s. s.faults };
 
     // The reader writes into a chunk of this call, so that it can't touch the rest of the buffer.
     fn read(&mut self, buf: &mut [u8]) -> Result<usize, Failed>
         ensures ok { IfOk result (Gives None None buf.old buf.new) }
-        ensures err { OnErr result (Fails None None self.old self.new) }
-        ensures never_falls { NeverFalls self.old self.new }
-        ensures count { self.new ≡ (if is_err result then counted self.old else self.old) }
+        ensures err { OnErr result (Fails None None self.old.faults self.new.faults) }
+        ensures never_falls { NeverFalls self.old.faults self.new.faults }
+        ensures count { self.new.faults ≡ faults_after (is_err result) self.old.faults }
+
+        // Where the reader's bytes are known, the source passes them on.
+        ensures passes { ReadConsumes (R.remaining self.old.inner) (R.remaining self.new.inner)
+            result buf.new }
     {
         let mut chunk = [0; CHUNK];
         let room = buf.len().min(CHUNK);
@@ -74,11 +80,11 @@ pub struct StdSink<W: Write> {
 }
 
 impl<W: Write> Model for StdSink<W> {
-    ghost use Rattle.std.specs.Prelude.{ℕ};
+    ghost use Rattle.mask_io.specs.Adapters.{Counted};
 
-    ghost Value = { ℕ };
+    ghost Value = { Counted W };
 
-    ghost view = { λ s. s.faults };
+    ghost view = { λ s. record { inner = s.inner; faults = s.faults } };
 }
 
 impl<W: Write> StdSink<W> {
@@ -86,6 +92,7 @@ impl<W: Write> StdSink<W> {
     pub fn new(inner: W) -> StdSink<W>
         ensures untold { ⟦<StdSink<W> as Sink>⟧.written result ≡ None }
         ensures no_fault { ⟦<StdSink<W> as Sink>⟧.faults result ≡ 0 }
+        ensures inner { result.inner ≡ inner }
     {
         StdSink { inner, faults: 0 }
     }
@@ -94,14 +101,18 @@ impl<W: Write> StdSink<W> {
 impl<W: Write> Sink for StdSink<W> {
     ghost written = { λ _. None };
 
-    ghost faults = { λ s. s };
+    ghost faults = { λ s. s.faults };
 
     // A write of no bytes, where there are some, is a failure.
     fn write(&mut self, piece: &[u8]) -> Result<usize, Failed>
         ensures ok { IfOk result (Accepts None None piece.now) }
-        ensures err { OnErr result (Fails None None self.old self.new) }
-        ensures never_falls { NeverFalls self.old self.new }
-        ensures count { self.new ≡ (if is_err result then counted self.old else self.old) }
+        ensures err { OnErr result (Fails None None self.old.faults self.new.faults) }
+        ensures never_falls { NeverFalls self.old.faults self.new.faults }
+        ensures count { self.new.faults ≡ faults_after (is_err result) self.old.faults }
+
+        // Where the writer's bytes are known, the sink passes them on.
+        ensures passes { IfOk result
+            (λ n. Appends (W.contents self.old.inner) (W.contents self.new.inner) (take n piece.now)) }
     {
         match write_and_flush(&mut self.inner, piece) {
             Ok(count) if count > 0 || piece.is_empty() => Ok(count),
@@ -114,14 +125,16 @@ impl<W: Write> Sink for StdSink<W> {
 }
 
 fn write_and_flush<W: Write>(inner: &mut W, piece: &[u8]) -> io::Result<usize>
-    ensures { WritesAtMost result piece.now }
+    ensures bound { WritesAtMost result piece.now }
+    ensures bytes { IfOk result
+        (λ n. Appends (W.contents inner.old) (W.contents inner.new) (take n piece.now)) }
 {
     let count = inner.write(piece)?;
     inner.flush()?;
     Ok(count)
 }
 
-/// A reader as entropy.
+/// A reader as entropy. It reads until the buffer is full; that the reader ends before is a failure.
 #[derive(Drop)]
 pub struct FileEntropy<R: Read> {
     inner: R,
@@ -130,11 +143,11 @@ pub struct FileEntropy<R: Read> {
 }
 
 impl<R: Read> Model for FileEntropy<R> {
-    ghost use Rattle.mask_io.specs.Outside.{Refusals};
+    ghost use Rattle.mask_io.specs.Adapters.{Drawn};
 
-    ghost Value = { Refusals };
+    ghost Value = { Drawn R };
 
-    ghost view = { λ s. record { faults = s.faults; wanted = s.wanted } };
+    ghost view = { λ s. record { inner = s.inner; faults = s.faults; wanted = s.wanted } };
 }
 
 impl<R: Read> FileEntropy<R> {
@@ -143,6 +156,7 @@ impl<R: Read> FileEntropy<R> {
         ensures untold { ⟦<FileEntropy<R> as Entropy>⟧.left result ≡ None }
         ensures no_fault { ⟦<FileEntropy<R> as Entropy>⟧.faults result ≡ 0 }
         ensures no_want { ⟦<FileEntropy<R> as Entropy>⟧.wanted result ≡ 0 }
+        ensures inner { result.inner ≡ inner }
     {
         FileEntropy {
             inner,
@@ -166,25 +180,17 @@ impl<R: Read> Entropy for FileEntropy<R> {
         ensures wants { MatchResult result
             (λ _. self.new.wanted ≡ self.old.wanted)
             (λ _. self.new.wanted ≡ length buf.old) }
-        ensures count { self.new.faults ≡ (if is_err result then counted self.old.faults else self.old.faults) }
+        ensures count { self.new.faults ≡ faults_after (is_err result) self.old.faults }
+
+        // Where the reader's bytes are known, the entropy passes them on.
+        ensures passes { OnOk result
+            (Consumes (R.remaining self.old.inner) (R.remaining self.new.inner) buf.new) }
     {
-        if !reads_whole(&mut self.inner, buf) {
+        if self.inner.read_exact(buf).is_err() {
             self.faults = self.faults.saturating_add(1);
             self.wanted = buf.len();
             return Err(Failed);
         }
         Ok(())
     }
-}
-
-// Reads until the buffer is full, unless a read fails or gives no byte.
-fn reads_whole<R: Read>(inner: &mut R, buf: &mut [u8]) -> bool {
-    let mut filled = 0;
-    while filled < buf.len() {
-        match inner.read(&mut buf[filled..]) {
-            Ok(count) if count > 0 => filled += count,
-            _ => return false,
-        }
-    }
-    true
 }

@@ -36,7 +36,8 @@ impl Calls {
 
     // Counts a call. It fails where its number is listed, or where it can't be met.
     pub(crate) fn answer(&mut self, can_be_met: bool) -> Result<(), Failed>
-        ensures fails { IsErr result ↔ (Contains self.old.fails self.old.made ⊎ (can_be_met ≡ false)) }
+        ensures fails { IsErr result
+            ↔ (Contains self.old.fails self.old.made ⊎ (can_be_met ≡ false)) }
         ensures after { self.new ≡ after_call self.old (is_err result) }
         ensures never_falls { self.old.faults ≤ self.new.faults }
     {

@@ -17,6 +17,8 @@ mod adapters;
 mod calls;
 mod memory;
 mod seed;
+#[cfg(test)]
+mod tests;
 
 pub use adapters::{FileEntropy, StdSink, StdSource};
 pub use memory::{ClosedEntropy, ClosedSource, MemEntropy, MemSink, MemSource, SureSource};
@@ -38,7 +40,8 @@ pub trait Source {
     /// or the source is at its end.
     fn read(&mut self, buf: &mut [u8]) -> Result<usize, Failed>
         ensures ok { IfOk result (Gives (left self.old) (left self.new) buf.old buf.new) }
-        ensures err { OnErr result (Fails (left self.old) (left self.new) (faults self.old) (faults self.new)) }
+        ensures err { OnErr result
+            (Fails (left self.old) (left self.new) (faults self.old) (faults self.new)) }
         ensures never_falls { NeverFalls (faults self.old) (faults self.new) };
 }
 
@@ -53,7 +56,8 @@ pub trait Sink {
     /// Appends bytes from the front of `piece` and says how many: at least one, where there is one.
     fn write(&mut self, piece: &[u8]) -> Result<usize, Failed>
         ensures ok { IfOk result (Accepts (written self.old) (written self.new) piece.now) }
-        ensures err { OnErr result (Fails (written self.old) (written self.new) (faults self.old) (faults self.new)) }
+        ensures err { OnErr result
+            (Fails (written self.old) (written self.new) (faults self.old) (faults self.new)) }
         ensures never_falls { NeverFalls (faults self.old) (faults self.new) };
 }
 
@@ -72,7 +76,8 @@ pub trait Entropy {
     /// none. What `buf` holds after a failure isn't said.
     fn fill(&mut self, buf: &mut [u8]) -> Result<(), Failed>
         ensures ok { OnOk result (Takes (left self.old) (left self.new) buf.new) }
-        ensures err { OnErr result (Fails (left self.old) (left self.new) (faults self.old) (faults self.new)) }
+        ensures err { OnErr result
+            (Fails (left self.old) (left self.new) (faults self.old) (faults self.new)) }
         ensures never_falls { NeverFalls (faults self.old) (faults self.new) }
         ensures wants { MatchResult result
             (λ _. wanted self.new ≡ wanted self.old)
@@ -84,7 +89,8 @@ pub trait Entropy {
 /// On a failure a part of the piece was written, and never all of it. An empty piece needs no call.
 pub fn write_all<O: Sink>(sink: &mut O, piece: &[u8]) -> Result<(), Failed>
     ensures whole { OnOk result (Appends (O.written sink.old) (O.written sink.new) piece.now) }
-    ensures part { OnErr result (AppendsProperPrefix (O.written sink.old) (O.written sink.new) piece.now) }
+    ensures part { OnErr result
+        (AppendsProperPrefix (O.written sink.old) (O.written sink.new) piece.now) }
     ensures rose { OnErr result (Rose (O.faults sink.old) (O.faults sink.new)) }
     ensures never_falls { NeverFalls (O.faults sink.old) (O.faults sink.new) }
 

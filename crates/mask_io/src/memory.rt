@@ -1,6 +1,6 @@
 //! Sources, sinks and entropy in memory, and those that are closed.
 
-ghost use Rattle.std.specs.Prelude.{◌≡◌, ℕ, ◌+◌, ◌-◌, ◌<◌, ◌≤◌, ◌↔◌, ◌⊎◌, min, [], ◌++◌, length, take, drop, replicate, None, Some, IsOk, IsErr, IfOk, OnOk, OnErr, MatchResult, Contains};
+ghost use Rattle.std.specs.Prelude.{◌≡◌, ℕ, ◌+◌, ◌<◌, ◌≤◌, ◌↔◌, ◌⊎◌, min, [], length, drop, None, Some, IsOk, IsErr, IfOk, OnOk, OnErr, MatchResult, Contains};
 ghost use Rattle.std.specs.Result.{is_err};
 ghost use Rattle.mask_io.specs.Outside.{counted, NeverFalls, Gives, Accepts, Takes, Fails};
 ghost use Rattle.mask_io.specs.Memory.{after_call};
@@ -25,13 +25,18 @@ impl Model for MemSource {
 
     ghost Value = { Feed };
 
-    ghost view = { λ s. record { left = drop s.at s.bytes.items; piece = s.piece; script = s.calls } };
+    ghost view = { λ s. record {
+      left = drop s.at s.bytes.items;
+      piece = s.piece;
+      script = s.calls;
+    } };
 
     ghost invariant = { λ s. (s.at ≤ length s.bytes.items) × (1 ≤ s.piece) };
 }
 
 impl MemSource {
-    /// Gives `bytes`, at most `piece` of them in a call. The calls whose numbers stand in `fails` fail.
+    /// Gives `bytes`, at most `piece` of them in a call. The calls whose numbers stand in `fails`
+    /// fail.
     pub fn new(bytes: Vec<u8>, piece: usize, fails: Vec<u32>) -> MemSource
         requires { 1 ≤ piece }
         ensures told { ⟦<MemSource as Source>⟧.left result ≡ Some bytes.items }
@@ -58,10 +63,12 @@ impl Source for MemSource {
 
     fn read(&mut self, buf: &mut [u8]) -> Result<usize, Failed>
         ensures ok { IfOk result (Gives (Some self.old.left) (Some self.new.left) buf.old buf.new) }
-        ensures err { OnErr result (Fails (Some self.old.left) (Some self.new.left) self.old.script.faults self.new.script.faults) }
+        ensures err { OnErr result (Fails (Some self.old.left) (Some self.new.left)
+            self.old.script.faults self.new.script.faults) }
         ensures never_falls { NeverFalls self.old.script.faults self.new.script.faults }
         ensures fails { IsErr result ↔ Contains self.old.script.fails self.old.script.made }
-        ensures count { IfOk result (λ n. n ≡ min self.old.piece (min (length buf.old) (length self.old.left))) }
+        ensures count { IfOk result
+            (λ n. n ≡ min self.old.piece (min (length buf.old) (length self.old.left))) }
         ensures after { self.new ≡ record {
           left = self.new.left;
           piece = self.old.piece;
@@ -245,9 +252,13 @@ impl Sink for MemSink {
             self.old.script.faults self.new.script.faults) }
         ensures never_falls { NeverFalls self.old.script.faults self.new.script.faults }
         ensures fails { IsErr result
-            ↔ (Contains self.old.script.fails self.old.script.made ⊎ ((0 < length piece.now) × (self.old.room ≡ 0))) }
-        ensures count { IfOk result (λ n. n ≡ min self.old.piece (min (length piece.now) self.old.room)) }
-        ensures room { IfOk result (λ n. self.old.room ≡ self.new.room + n) }
+            ↔ (Contains self.old.script.fails self.old.script.made
+            ⊎ ((0 < length piece.now) × (self.old.room ≡ 0))) }
+        ensures count { IfOk result
+            (λ n. n ≡ min self.old.piece (min (length piece.now) self.old.room)) }
+        ensures room { MatchResult result
+            (λ n. self.old.room ≡ self.new.room + n)
+            (λ _. self.new.room ≡ self.old.room) }
         ensures after { self.new ≡ record {
           written = self.new.written;
           room = self.new.room;
@@ -279,7 +290,11 @@ impl Model for MemEntropy {
 
     ghost Value = { Supply };
 
-    ghost view = { λ s. record { left = drop s.at s.bytes.items; wanted = s.wanted; script = s.calls } };
+    ghost view = { λ s. record {
+      left = drop s.at s.bytes.items;
+      wanted = s.wanted;
+      script = s.calls;
+    } };
 
     ghost invariant = { λ s. s.at ≤ length s.bytes.items };
 }
@@ -314,11 +329,15 @@ impl Entropy for MemEntropy {
 
     fn fill(&mut self, buf: &mut [u8]) -> Result<(), Failed>
         ensures ok { OnOk result (Takes (Some self.old.left) (Some self.new.left) buf.new) }
-        ensures err { OnErr result (Fails (Some self.old.left) (Some self.new.left) self.old.script.faults self.new.script.faults) }
+        ensures err { OnErr result (Fails (Some self.old.left) (Some self.new.left)
+            self.old.script.faults self.new.script.faults) }
         ensures never_falls { NeverFalls self.old.script.faults self.new.script.faults }
-        ensures wants { MatchResult result (λ _. self.new.wanted ≡ self.old.wanted) (λ _. self.new.wanted ≡ length buf.old) }
+        ensures wants { MatchResult result
+            (λ _. self.new.wanted ≡ self.old.wanted)
+            (λ _. self.new.wanted ≡ length buf.old) }
         ensures fails { IsErr result
-            ↔ (Contains self.old.script.fails self.old.script.made ⊎ (length self.old.left < length buf.old)) }
+            ↔ (Contains self.old.script.fails self.old.script.made
+            ⊎ (length self.old.left < length buf.old)) }
         ensures script { self.new.script ≡ after_call self.old.script (is_err result) }
     {
         let rest = &self.bytes[self.at..];
@@ -349,7 +368,7 @@ pub struct ClosedEntropy {
 }
 
 impl Model for ClosedEntropy {
-    ghost use Rattle.mask_io.specs.Outside.{Refusals};
+    ghost use Rattle.mask_io.specs.Memory.{Refusals};
 
     ghost Value = { Refusals };
 
@@ -381,9 +400,11 @@ impl Entropy for ClosedEntropy {
         ensures ok { OnOk result (Takes None None buf.new) }
         ensures err { OnErr result (Fails None None self.old.faults self.new.faults) }
         ensures never_falls { NeverFalls self.old.faults self.new.faults }
-        ensures wants { MatchResult result (λ _. self.new.wanted ≡ self.old.wanted) (λ _. self.new.wanted ≡ length buf.old) }
+        ensures wants { MatchResult result
+            (λ _. self.new.wanted ≡ self.old.wanted)
+            (λ _. self.new.wanted ≡ length buf.old) }
         ensures closed { IsErr result }
-        ensures count { self.new ≡ record { faults = counted self.old.faults; wanted = length buf.old } }
+        ensures count { self.new.faults ≡ counted self.old.faults }
     {
         self.faults = self.faults.saturating_add(1);
         self.wanted = buf.len();

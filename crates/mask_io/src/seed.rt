@@ -1,6 +1,6 @@
 //! Entropy from a seed.
 
-ghost use Rattle.std.specs.Prelude.{◌≡◌, ℕ, ◌+◌, ◌%◌, ◌^◌, length, None, IsOk, OnOk, OnErr, MatchResult, slice_index, EachIndex};
+ghost use Rattle.std.specs.Prelude.{◌≡◌, ℕ, ◌+◌, ◌%◌, ◌^◌, length, None, IsOk, OnOk, OnErr, slice_index, EachIndex};
 ghost use Rattle.rand_chacha.specs.ChaCha.{key_of};
 ghost use Rattle.mask_io.specs.Outside.{NeverFalls, Takes, Fails};
 ghost use Rattle.mask_io.specs.Seeded.{stream_byte};
@@ -36,7 +36,8 @@ impl Model for SeedEntropy {
     // The bytes of `word` that weren't given are those of the word before the generator's next.
     ghost invariant = { λ s. (s.used ≤ 4) × (s.rng.stream ≡ 0) × (s.rng.word_pos < 2 ^ 68)
         × ((i : ℕ) → s.used ≤ i → i < 4
-        → slice_index s.word i ≡ stream_byte s.rng.key ((s.rng.word_pos + (2 ^ 68 - 1)) % 2 ^ 68 * 4 + i)) };
+        → slice_index s.word i
+        ≡ stream_byte s.rng.key ((s.rng.word_pos + (2 ^ 68 - 1)) % 2 ^ 68 * 4 + i)) };
 }
 
 impl SeedEntropy {
@@ -82,8 +83,10 @@ impl Entropy for SeedEntropy {
         ensures never_fails { IsOk result }
 
         // The buffer holds the next bytes of the stream.
-        ensures bytes { EachIndex buf.new (λ i. slice_index buf.new i ≡ stream_byte self.old.key (self.old.place + i)) }
-        ensures after { self.new ≡ record self.old { place = (self.old.place + length buf.old) % 2 ^ 70 } }
+        ensures bytes { EachIndex buf.new
+            (λ i. slice_index buf.new i ≡ stream_byte self.old.key (self.old.place + i)) }
+        ensures after { self.new
+            ≡ record self.old { place = (self.old.place + length buf.old) % 2 ^ 70 } }
     {
         // No effect at run time. The proof reads from this use that the place is below 2^70.
         let _ = &self.used;

@@ -1,4 +1,4 @@
-use Rattle.std.proofs.Common.{◌≡◌, ℕ, ◌+◌, ◌*◌, ◌%◌, ◌^◌, ◌<◌, ◌++◌, Bool, true, false, length, replicate, take, ◌∙◌, ap, refl, if◌then◌else◌, arith}
+use Rattle.std.proofs.Common.{◌≡◌, ◌+◌, ◌*◌, ◌%◌, ◌^◌, ◌<◌, Bool, true, false, length, take, ◌∙◌, ap, refl, if◌then◌else◌, arith}
 use mir.Val.{bool_byte}
 use Rattle.std.proofs.Math.Seq.{take-length}
 use Rattle.mask_bits.specs.Reading.{lowest, number}

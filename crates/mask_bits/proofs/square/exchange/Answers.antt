@@ -1,4 +1,4 @@
-use Rattle.std.proofs.Common.{ℕ, ◌≡◌, ◌≢◌, ◌<◌, length, get_or, set, arith, below_more, get_or-set_other, get_or-set_same}
+use Rattle.std.proofs.Common.{ℕ, ◌≢◌, ◌<◌, length, get_or, set, arith, below_more, get_or-set_other, get_or-set_same}
 use Rattle.mask_bits.specs.Square.{IsExchanged}
 use Rattle.mask_bits.proofs.square.exchange.Goals as goal
 

@@ -1,8 +1,8 @@
-use Rattle.std.proofs.Common.{ℕ, ◌≡◌, ◌/◌, ◌%◌, ◌<◌, Bool, true, nat_eq, refl, inl, inr}
+use Rattle.std.proofs.Common.{ℕ, ◌≡◌, ◌/◌, ◌%◌, true, nat_eq, refl, inl, inr}
 use Rattle.std.proofs.lemmas.Bool.{agree_below, agree_below_at}
 use Rattle.mask_bits.specs.Reading.{bit}
 use Rattle.mask_bits.specs.Square.{IsMask}
-use Rattle.mask_bits.proofs.Exchange.{IsMixed, mixed_none, mixed_more, mixed_all}
+use Rattle.mask_bits.proofs.Exchange.{mixed_none, mixed_more, mixed_all}
 use Rattle.mask_bits.proofs.square.transpose_64.Goals as goal
 
 -- a mask is tested at each of its 64 places

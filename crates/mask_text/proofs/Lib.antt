@@ -1,0 +1,13 @@
+pub mod Arms
+pub mod Circuits
+pub mod Digits
+pub mod Fronts
+pub mod Groups
+pub mod Meanings
+pub mod Numbers
+pub mod Pieces
+pub mod Rights
+pub mod Run
+pub mod Sound
+pub mod Spellings
+pub mod Steps
