@@ -220,3 +220,8 @@ out_of_words l n g values r result unit e = ap (lane l) e ∙ out_in_lane l n g 
 -- how many bits a lane has
 pub length-lane : (l n : ℕ) (ws : List ℕ) → length ws ≡ n → length (lane l ws) ≡ n
 length-lane l n ws e = length-map ws (bit l) ∙ e
+
+pub wires_of_words : (l n : ℕ) (g : Gate) (values : List (List ℕ)) (r wires : List ℕ) → KeepsUnit words bits (bit l) (keeps_lane l) g →
+    wires ≡ gate_wires words n g (all_listed words values) r →
+    lane l wires ≡ gate_wires bits n g (all_listed bits (map (lane l) values)) (lane l r)
+wires_of_words l n g values r wires unit e = ap (lane l) e ∙ wires_in_lane l n g values r unit

@@ -103,3 +103,12 @@ row_sum-same R first first' t t' i (suc k) e same =
         ≡ cond here (row_sum R first' t' i k) (R.add (row_sum R first' t' i k) (t' (suc k)))
     go up true at = up
     go up false at = rw (up, same (suc k) (omega arith) (eqb-false i (suc k) at)) refl
+
+-- the same where the number of partners is given otherwise
+pub partial-end : {X : Type 0} (R : Ring X) (first : X) (term : ℕ → X) (n i m : ℕ) → 2 ≤ n → i < n → m ≡ n - 1 →
+    partial R first term i m ≡ row_sum R first term i (n - 1)
+partial-end R first term zero i m two lt e = absurd (omega arith)
+partial-end R first term (suc zero) i m two lt e = absurd (omega arith)
+partial-end R first term (suc (suc n)) i m two lt e =
+    let count : suc (suc n) - 1 ≡ suc n = omega arith in
+    rw (e, count) (partial-all R first term n i lt)

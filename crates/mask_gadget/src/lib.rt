@@ -9,9 +9,11 @@ use arrayvec::ArrayVec;
 
 mod gates;
 mod product;
+mod refresh;
 
 pub use gates::{not_gadget, xor_gadget};
 pub use product::and_gadget;
+pub use refresh::ref_gadget;
 
 /// The wires of one gate, by local number. A product of 8 shares has 204.
 pub type Wires = ArrayVec<u64, 204>;

@@ -53,7 +53,8 @@ fn push_products<const N: usize>(x: &Shares<N>, y: &Shares<N>, wires: &mut Wires
     requires few { N ≤ 8 }
     requires empty { wires.old.items ≡ [] }
     ensures items { wires.new.items ≡ joined (λ i. each (λ j. bit_and (slice_index x.now i) (slice_index y.now j)) N) N }
-    ensures counts { (length x.now ≡ N) × (length y.now ≡ N) }
+    ensures count { length wires.new.items ≡ N * N }
+    ensures operands { (length x.now ≡ N) × (length y.now ≡ N) }
 {
     prove!(x.count() == N);
     prove!(y.count() == N);
@@ -72,6 +73,7 @@ fn push_pairs<const N: usize>(x: &Shares<N>, y: &Shares<N>, coins: &mut Coins, w
     ensures items { wires.new.items ≡ wires.old.items
         ++ map (product_wire words N (listed words x.now) (listed words y.now) (fresh_of words (pairs N) (coins_of N coins.old)))
           (joined (λ i. pair_row i (N - suc i)) N) }
+    ensures count { length wires.new.items ≡ length wires.old.items + 3 * length (pairs N) }
     ensures spent { coins.new.used ≡ coins.old.used + length (pairs N) }
     ensures same { coins.new.words ≡ coins.old.words }
 {
@@ -95,6 +97,7 @@ fn push_row<const N: usize>(i: usize, wires: &mut Wires) -> u64
     requires front { length wires.old.items ≡ N * N + 3 * pair_count N + i * (N - 1) }
     ensures items { wires.new.items ≡ wires.old.items
         ++ each (λ m. row_sum words (slice_index wires.old.items (i * N + i)) (λ k. slice_index wires.old.items (cross_place N i k)) i (other i m)) (N - 1) }
+    ensures count { length wires.new.items ≡ length wires.old.items + (N - 1) }
     ensures sum { result ≡ row_sum words (slice_index wires.old.items (i * N + i)) (λ k. slice_index wires.old.items (cross_place N i k)) i (N - 1) }
 {
     let mut sum = wires[i * N + i];
@@ -114,12 +117,14 @@ fn other(i: usize, m: usize) -> usize
 }
 
 // Where r_ik stands among the wires: as the coin of its pair, or as the last wire of it.
+#[tactic(auto, using(crate::proofs::Numbers::small))]
 fn cross_place<const N: usize>(i: usize, k: usize) -> usize
     requires few { N ≤ 8 }
     requires row { i < N }
     requires column { k < N }
     requires apart { i ≢ k }
-    ensures { result ≡ cross_place N i k }
+    ensures value { result ≡ cross_place N i k }
+    ensures bound { result < N * N + 3 * pair_count N }
 {
     if i < k {
         N * N + 3 * pair_number::<N>(i, k)
@@ -133,7 +138,8 @@ fn pair_number<const N: usize>(i: usize, j: usize) -> usize
     requires few { N ≤ 8 }
     requires order { i < j }
     requires bound { j < N }
-    ensures { result ≡ pair_number N i j }
+    ensures value { result ≡ pair_number N i j }
+    ensures bound { result < pair_count N }
 {
     i * (2 * N - i - 1) / 2 + (j - i - 1)
 }
