@@ -68,17 +68,21 @@ not_in_row i j k (suc c) ne =
 not_in_row_yet : (i j c : ℕ) → suc i + c ≤ j → has_pair i j (each (λ m. (i, suc i + m)) c) ≡ false
 not_in_row_yet i j zero le = refl
 not_in_row_yet i j (suc c) le =
-    rw (has_pair-append i j (each (λ m. (i, suc i + m)) c) ((i, suc i + c) ∷ []), not_in_row_yet i j c (omega arith), eq-eqb i i refl,
-    ne_eqb (suc i + c) j (omega arith)) refl
+    rw (
+      has_pair-append i j (each (λ m. (i, suc i + m)) c) ((i, suc i + c) ∷ []),
+      not_in_row_yet i j c (omega arith),
+      eq-eqb i i refl,
+      ne_eqb (suc i + c) j (omega arith),
+    ) refl
 
 -- .. but each that it reaches
 in_row : (i j c : ℕ) → i < j → j < suc i + c → has_pair i j (each (λ m. (i, suc i + m)) c) ≡ true
 in_row i j zero low high = absurd (omega arith)
 in_row i j (suc c) low high = elim (cases_lt j (suc i + c)) [
-    | inl below ↦ rw (has_pair-append i j (each (λ m. (i, suc i + m)) c) ((i, suc i + c) ∷ []), in_row i j c low below) refl
-    | inr up ↦ rw (has_pair-append i j (each (λ m. (i, suc i + m)) c) ((i, suc i + c) ∷ []), eq-eqb i i refl, eq-eqb (suc i + c) j (omega arith))
-        (or-true (has_pair i j (each (λ m. (i, suc i + m)) c)))
-  ]
+  | inl below ↦ rw (has_pair-append i j (each (λ m. (i, suc i + m)) c) ((i, suc i + c) ∷ []), in_row i j c low below) refl
+  | inr up ↦ rw (has_pair-append i j (each (λ m. (i, suc i + m)) c) ((i, suc i + c) ∷ []), eq-eqb i i refl, eq-eqb (suc i + c) j (omega arith))
+      (or-true (has_pair i j (each (λ m. (i, suc i + m)) c)))
+]
 
 -- the fresh bit of a lone pair is the first
 of_one : {X : Type 0} (R : Ring X) (p : Pair) (r : List X) (i j : ℕ) → p.0 ≡ i → p.1 ≡ j → fresh_of R (p ∷ []) r i j ≡ get_or r 0 R.nought
@@ -90,12 +94,12 @@ in_row_at : {X : Type 0} (R : Ring X) (r : List X) (i j c : ℕ) → i < j → j
     fresh_of R (each (λ m. (i, suc i + m)) c) r i j ≡ get_or r (j - suc i) R.nought
 in_row_at R r i j zero low high = absurd (omega arith)
 in_row_at R r i j (suc c) low high = elim (cases_lt j (suc i + c)) [
-    | inl below ↦ fresh_of-front R (each (λ m. (i, suc i + m)) c) ((i, suc i + c) ∷ []) r i j (in_row i j c low below) ∙ in_row_at R r i j c low below
-    | inr up ↦ let place : length (each {A = Pair} (λ m. (i, suc i + m)) c) + 0 ≡ j - suc i = omega (arith, length-each {A = Pair} (λ m. (i, suc i + m)) c) in
-        fresh_of-skip R (each (λ m. (i, suc i + m)) c) ((i, suc i + c) ∷ []) r i j (not_in_row_yet i j c up)
-        ∙ of_one R (i, suc i + c) (drop (length (each (λ m. (i, suc i + m)) c)) r) i j refl (omega arith)
-        ∙ get_or-drop (length (each (λ m. (i, suc i + m)) c)) r 0 R.nought ∙ ap (λ k. get_or r k R.nought) place
-  ]
+  | inl below ↦ fresh_of-front R (each (λ m. (i, suc i + m)) c) ((i, suc i + c) ∷ []) r i j (in_row i j c low below) ∙ in_row_at R r i j c low below
+  | inr up ↦ let place : length (each {A = Pair} (λ m. (i, suc i + m)) c) + 0 ≡ j - suc i = omega (arith, length-each {A = Pair} (λ m. (i, suc i + m)) c) in
+      fresh_of-skip R (each (λ m. (i, suc i + m)) c) ((i, suc i + c) ∷ []) r i j (not_in_row_yet i j c up)
+      ∙ of_one R (i, suc i + c) (drop (length (each (λ m. (i, suc i + m)) c)) r) i j refl (omega arith)
+      ∙ get_or-drop (length (each (λ m. (i, suc i + m)) c)) r 0 R.nought ∙ ap (λ k. get_or r k R.nought) place
+]
 
 -- the pair in the rows before m
 not_in_rows : (n m i j : ℕ) → m ≤ i → has_pair i j (joined (row_pairs n) m) ≡ false
@@ -106,10 +110,10 @@ not_in_rows n (suc m) i j le =
 in_rows : (n m i j : ℕ) → i < m → i < j → j < n → has_pair i j (joined (row_pairs n) m) ≡ true
 in_rows n zero i j lt low high = absurd (omega arith)
 in_rows n (suc m) i j lt low high = elim (below_cases i m lt) [
-    | inl below ↦ rw (has_pair-append i j (joined (row_pairs n) m) (row_pairs n m)) (or_true_left _ _ (in_rows n m i j below low high))
-    | inr here ↦ rw (has_pair-append i j (joined (row_pairs n) m) (row_pairs n m), ← here, in_row i j (n - suc i) low (omega arith))
-        (or-true (has_pair i j (joined (row_pairs n) i)))
-  ]
+  | inl below ↦ rw (has_pair-append i j (joined (row_pairs n) m) (row_pairs n m)) (or_true_left _ _ (in_rows n m i j below low high))
+  | inr here ↦ rw (has_pair-append i j (joined (row_pairs n) m) (row_pairs n m), ← here, in_row i j (n - suc i) low (omega arith))
+      (or-true (has_pair i j (joined (row_pairs n) i)))
+]
 
 -- how many pairs the rows before row m have
 pub length-rows : (n m : ℕ) → length (joined (row_pairs n) m) ≡ pairs_before n m
@@ -123,13 +127,13 @@ in_rows_at : {X : Type 0} (R : Ring X) (r : List X) (n m i j : ℕ) → i < m �
     fresh_of R (joined (row_pairs n) m) r i j ≡ get_or r (pair_number n i j) R.nought
 in_rows_at R r n zero i j lt low high = absurd (omega arith)
 in_rows_at R r n (suc m) i j lt low high = elim (below_cases i m lt) [
-    | inl below ↦ fresh_of-front R (joined (row_pairs n) m) (row_pairs n m) r i j (in_rows n m i j below low high) ∙ in_rows_at R r n m i j below low high
-    | inr here ↦ rw (← here)
-        (fresh_of-skip R (joined (row_pairs n) i) (row_pairs n i) r i j (not_in_rows n i i j (omega arith))
-        ∙ in_row_at R (drop (length (joined (row_pairs n) i)) r) i j (n - suc i) low (omega arith)
-        ∙ get_or-drop (length (joined (row_pairs n) i)) r (j - suc i) R.nought
-        ∙ ap (λ k. get_or r (k + (j - suc i)) R.nought) (length-rows n i))
-  ]
+  | inl below ↦ fresh_of-front R (joined (row_pairs n) m) (row_pairs n m) r i j (in_rows n m i j below low high) ∙ in_rows_at R r n m i j below low high
+  | inr here ↦ rw (← here)
+      (fresh_of-skip R (joined (row_pairs n) i) (row_pairs n i) r i j (not_in_rows n i i j (omega arith))
+      ∙ in_row_at R (drop (length (joined (row_pairs n) i)) r) i j (n - suc i) low (omega arith)
+      ∙ get_or-drop (length (joined (row_pairs n) i)) r (j - suc i) R.nought
+      ∙ ap (λ k. get_or r (k + (j - suc i)) R.nought) (length-rows n i))
+]
 
 -- the fresh bit of a pair stands at the pair's number
 pub fresh_of-at : {X : Type 0} (R : Ring X) (r : List X) (n i j : ℕ) → IsPair n i j → fresh_of R (pairs n) r i j ≡ get_or r (pair_number n i j) R.nought

@@ -27,9 +27,9 @@ pair_number-closed n i j low high =
 before-mono : (n i m : ℕ) → i < m → pairs_before n (suc i) ≤ pairs_before n m
 before-mono n i zero lt = absurd (omega arith)
 before-mono n i (suc m) lt = elim (below_cases i m lt) [
-    | inl below ↦ let up = before-mono n i m below in omega arith
-    | inr here ↦ rw here (omega arith)
-  ]
+  | inl below ↦ let up = before-mono n i m below in omega arith
+  | inr here ↦ rw here (omega arith)
+]
 
 pub length-pairs : (n : ℕ) → length (pairs n) ≡ pair_count n
 length-pairs n = let order = pairs_in_order n in order.count

@@ -46,7 +46,7 @@ column_more W f base items new i j low items_is new_is =
 pub pair_more : (n : ℕ) (a b : Shares ℕ) (r : ℕ → ℕ → ℕ) (base items : List ℕ) (i j fresh : ℕ) → i < j →
     items ≡ base ++ map (product_wire words n a b r) (pair_row i (j - suc i)) → fresh ≡ r i j →
     ((items ++ fresh ∷ []) ++ bit_xor fresh (bit_and (a i) (b j)) ∷ [])
-      ++ bit_xor (bit_xor fresh (bit_and (a i) (b j))) (bit_and (a j) (b i)) ∷ []
+    ++ bit_xor (bit_xor fresh (bit_and (a i) (b j))) (bit_and (a j) (b i)) ∷ []
     ≡ base ++ map (product_wire words n a b r) (pair_row i (j + 1 - suc i))
 pair_more n a b r base items i j fresh low items_is fresh_is =
     rw fresh_is (simp append_assoc (column_more (product_wire words n a b r) pair_names base items _ i j low items_is refl))

@@ -43,8 +43,8 @@ pub front_made : (n : ℕ) (a b : Shares ℕ) (r : ℕ → ℕ → ℕ) (product
     items ≡ map (product_wire words n a b r) (front n)
 front_made n a b r products items products_are items_are =
     let first : map (product_wire words n a b r) (joined (λ i. each (Product i) n) n) ≡ products =
-        map-joined (product_wire words n a b r) (λ i. each (Product i) n) n
-        ∙ joined-same _ _ n (λ i lt. map-each (product_wire words n a b r) (Product i) n) ∙ sym products_are in
+    map-joined (product_wire words n a b r) (λ i. each (Product i) n) n
+    ∙ joined-same _ _ n (λ i lt. map-each (product_wire words n a b r) (Product i) n) ∙ sym products_are in
     items_are
     ∙ rw (map-append (product_wire words n a b r) (joined (λ i. each (Product i) n) n) (flat_map (λ (p : Pair). pair_names p.0 p.1) (pairs n)), first, by_rows pair_names n) refl
 
@@ -92,21 +92,21 @@ module _ (n : ℕ) (a b : Shares ℕ) (r : ℕ → ℕ → ℕ) (more : List Wir
   -- row i, as it reads the wires before it, has its wires ..
   pub row_made : (i : ℕ) → i < n →
       each (λ m. row_sum words (get_or (map (product_wire words n a b r) (front n ++ more)) (i * n + i) 0)
-        (λ k. get_or (map (product_wire words n a b r) (front n ++ more)) (cross_place n i k) 0) i (other i m)) (n - 1)
+      (λ k. get_or (map (product_wire words n a b r) (front n ++ more)) (cross_place n i k) 0) i (other i m)) (n - 1)
       ≡ map (product_wire words n a b r) (row_names n i)
   row_made i lt =
       let count : n - 1 ≡ pred n = omega arith in
       rw count
       (each-same _ _ (pred n) (λ m hm.
-        let hk = other-below n i m lt (omega arith) in
-        row_sum-same words _ (bit_and (a i) (b i)) _ (cross words a b r i) i (other i m) (own_at i lt) (λ j le ne. cross_at i j lt (omega arith) ne)
-        ∙ sym (row_wire-sum words (product_wire words n a b r) (bit_and (a i) (b i)) (cross words a b r i) n i (other i m) refl refl))
+      let hk = other-below n i m lt (omega arith) in
+      row_sum-same words _ (bit_and (a i) (b i)) _ (cross words a b r i) i (other i m) (own_at i lt) (λ j le ne. cross_at i j lt (omega arith) ne)
+      ∙ sym (row_wire-sum words (product_wire words n a b r) (bit_and (a i) (b i)) (cross words a b r i) n i (other i m) refl refl))
       ∙ sym (map-each (product_wire words n a b r) (λ m. row_wire n i (other i m)) (pred n)))
 
   -- .. and ends with its output share
   pub row_ends : (i : ℕ) → i < n →
       row_sum words (get_or (map (product_wire words n a b r) (front n ++ more)) (i * n + i) 0)
-        (λ k. get_or (map (product_wire words n a b r) (front n ++ more)) (cross_place n i k) 0) i (n - 1)
+      (λ k. get_or (map (product_wire words n a b r) (front n ++ more)) (cross_place n i k) 0) i (n - 1)
       ≡ product_wire words n a b r (Share i)
   row_ends i lt =
       let count : n - 1 ≡ pred n = omega arith in

@@ -3,8 +3,9 @@ use Rattle.std.proofs.Common.{◌≡◌, ◌≢◌, ℕ, zero, suc, pred, ◌+�
 use Rattle.std.proofs.lemmas.Bool.{cases_lt, lt-ltb, le-ltb}
 use Rattle.std.proofs.lemmas.List.{get_or-set_same, get_or-set_other, length-set}
 use Rattle.mask_circuit.specs.Ring.{words}
-use Rattle.mask_circuit.specs.Wires.{Wire, Share, Fresh, Shares, row_wire, row_sum, fresh_between, refresh_wire}
+use Rattle.mask_circuit.specs.Wires.{Wire, Share, Fresh, Shares, row_wire, row_sum, fresh_between, refresh_wire, joined, refresh_names}
 use Rattle.mask_laws.proofs.Members.{below_cases}
+use Rattle.mask_gadget.proofs.Pairs.{by_rows}
 use Rattle.mask_gadget.proofs.Rows.{row_before, row_before-own, row_before-more, row_wire-sum}
 
 module _ (n : ℕ) (a : Shares ℕ) (r : ℕ → ℕ → ℕ) where
@@ -66,7 +67,7 @@ module _ (n : ℕ) (a : Shares ℕ) (r : ℕ → ℕ → ℕ) where
       let count : length parts ≡ n = done.count in
       let first : List ℕ = set parts i (bit_xor (get_or parts i 0) coin) in
       let others : (k : ℕ) → k ≢ i → k ≢ j → get_or (set first j (bit_xor (get_or parts j 0) coin)) k 0 ≡ get_or parts k 0 =
-          λ k ni nj. get_or-set_other first j k (bit_xor (get_or parts j 0) coin) 0 nj ∙ get_or-set_other parts i k (bit_xor (get_or parts i 0) coin) 0 ni in
+      λ k ni nj. get_or-set_other first j k (bit_xor (get_or parts j 0) coin) 0 nj ∙ get_or-set_other parts i k (bit_xor (get_or parts i 0) coin) 0 ni in
       record {
         count = simp (length-set, length-set) count;
         complete = λ k lt. others k (omega arith) (omega arith) ∙ done.complete k lt;
@@ -96,3 +97,12 @@ module _ (n : ℕ) (a : Shares ℕ) (r : ℕ → ℕ → ℕ) where
   all_done i parts e some done k lt =
       let last : n ≡ suc (pred n) = omega arith in
       done.complete k (omega arith) ∙ ap (refreshed k) last
+
+-- the three names of a pair in a refresh
+abbrev pub update_names : ℕ → ℕ → ℕ → List Wire
+update_names n i j = Fresh i j ∷ row_wire n i j ∷ row_wire n j i ∷ []
+
+-- all rows are all wires
+pub all_updates : (n : ℕ) (W : Wire → ℕ) (items : List ℕ) (i : ℕ) → i ≡ n →
+    items ≡ map W (joined (λ k. joined (λ m. update_names n k (suc k + m)) (n - suc k)) i) → items ≡ map W (refresh_names n)
+all_updates n W items i e items_are = items_are ∙ rw (e, ← by_rows (update_names n) n) refl

@@ -41,16 +41,16 @@ partial R first term i (suc m) = row_sum R first term i (other i m)
 -- it is that of the columns before the next partner
 partial-before : {X : Type 0} (R : Ring X) (first : X) (term : ℕ → X) (i m : ℕ) → partial R first term i m ≡ row_before R first term i (other i m)
 partial-before R first term i zero = elim (cases_lt 0 i) [
-    | inl low ↦ rw (other-low i 0 low) refl
-    | inr high ↦ rw (other-high i 0 high) (sym (row_before-own R first term i 0 (omega arith)))
-  ]
+  | inl low ↦ rw (other-low i 0 low) refl
+  | inr high ↦ rw (other-high i 0 high) (sym (row_before-own R first term i 0 (omega arith)))
+]
 partial-before R first term i (suc m) = elim (cases_lt (suc m) i) [
-    | inl low ↦ rw (other-low i (suc m) low, other-low i m (omega arith)) refl
-    | inr high ↦ elim (cases_lt m i) [
-      | inl last ↦ rw (other-high i (suc m) high, other-low i m last) (sym (row_before-own R first term i (suc m) (omega arith)))
-      | inr past ↦ rw (other-high i (suc m) high, other-high i m past) refl
-    ]
+  | inl low ↦ rw (other-low i (suc m) low, other-low i m (omega arith)) refl
+  | inr high ↦ elim (cases_lt m i) [
+    | inl last ↦ rw (other-high i (suc m) high, other-low i m last) (sym (row_before-own R first term i (suc m) (omega arith)))
+    | inr past ↦ rw (other-high i (suc m) high, other-high i m past) refl
   ]
+]
 
 -- one partner more
 pub partial-more : {X : Type 0} (R : Ring X) (first : X) (term : ℕ → X) (i m : ℕ) →
@@ -62,9 +62,9 @@ partial-more R first term i m =
 pub partial-all : {X : Type 0} (R : Ring X) (first : X) (term : ℕ → X) (n i : ℕ) → i < suc (suc n) →
     partial R first term i (suc n) ≡ row_sum R first term i (suc n)
 partial-all R first term n i lt = elim (cases_lt n i) [
-    | inl last ↦ rw (other-low i n last) (sym (row_before-own R first term i (suc n) (omega arith)))
-    | inr past ↦ rw (other-high i n past) refl
-  ]
+  | inl last ↦ rw (other-low i n last) (sym (row_before-own R first term i (suc n) (omega arith)))
+  | inr past ↦ rw (other-high i n past) refl
+]
 
 -- after its last partner a row is complete
 at_last : {X : Type 0} (R : Ring X) (first : X) (term : ℕ → X) (n i k : ℕ) → (complete : Bool) → (suc k == n) ≡ complete → is_last n i k ≡ true →

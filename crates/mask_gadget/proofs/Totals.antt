@@ -73,8 +73,11 @@ pub square-same : (c d : ℕ → ℕ → Bool) (n : ℕ) → ((i : ℕ) → i < 
 square-same c d zero own mirrored = refl
 square-same c d (suc n) own mirrored =
     square-more c n
-    ∙ rw (square-same c d n (λ i lt. own i (omega arith)) (λ i j low high. mirrored i j low (omega arith)),
-    total-same (λ k. xor (c k n) (c n k)) (λ k. xor (d k n) (d n k)) n (λ k lt. mirrored k n lt (omega arith)), own n (omega arith))
+    ∙ rw (
+      square-same c d n (λ i lt. own i (omega arith)) (λ i j low high. mirrored i j low (omega arith)),
+      total-same (λ k. xor (c k n) (c n k)) (λ k. xor (d k n) (d n k)) n (λ k lt. mirrored k n lt (omega arith)),
+      own n (omega arith),
+    )
     (sym (square-more d n))
 
 -- the square of all products
@@ -90,9 +93,9 @@ none_yet x i (suc n) le = rw (none_yet x i n (omega arith), ne_eqb i n (omega ar
 one_of : (x : Bool) (i n : ℕ) → i < n → total (λ j. cond (i == j) x false) n ≡ x
 one_of x i zero lt = absurd (omega arith)
 one_of x i (suc n) lt = elim (cases_lt i n) [
-    | inl below ↦ rw (one_of x i n below, ne_eqb i n (omega arith)) (xor-false x)
-    | inr here ↦ rw (none_yet x i n here, eq-eqb i n (omega arith)) refl
-  ]
+  | inl below ↦ rw (one_of x i n below, ne_eqb i n (omega arith)) (xor-false x)
+  | inr here ↦ rw (none_yet x i n here, eq-eqb i n (omega arith)) refl
+]
 
 square-diagonal : (a : ℕ → Bool) (n : ℕ) → square (λ i j. cond (i == j) (a i) false) n n ≡ total a n
 square-diagonal a n = total-same _ a n (λ i lt. one_of (a i) i n lt)
@@ -117,9 +120,9 @@ row_late : (first : ℕ → Bool) (term : ℕ → ℕ → Bool) (i k : ℕ) → 
 unfolding cell
 row_late first term i zero le = rw (eq-eqb i 0 (omega arith)) refl
 row_late first term i (suc k) le = elim (cases_lt k i) [
-    | inl early ↦ rw (eq-eqb i (suc k) (omega arith)) (row_early first term i k early ∙ xor_comm (first i) (total (cell first term i) (suc k)))
-    | inr late ↦ rw (ne_eqb i (suc k) (omega arith), row_late first term i k late) refl
-  ]
+  | inl early ↦ rw (eq-eqb i (suc k) (omega arith)) (row_early first term i k early ∙ xor_comm (first i) (total (cell first term i) (suc k)))
+  | inr late ↦ rw (ne_eqb i (suc k) (omega arith), row_late first term i k late) refl
+]
 
 -- the rows of n shares together
 pub rows-total : (first : ℕ → Bool) (term : ℕ → ℕ → Bool) (n : ℕ) →

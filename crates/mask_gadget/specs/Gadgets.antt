@@ -4,7 +4,6 @@ use Rattle.mask_circuit.specs.Wires.{Wire, Fresh, Left, Right, joined, pairs}
 use Rattle.mask_laws.specs.Names.{pair_number}
 use Rattle.mask_tape.specs.Drawn.{Drawn, ahead}
 
-
 -- the next coins, one for each pair of n shares
 abbrev pub coins_of : ℕ → Drawn → List ℕ
 coins_of n coins = ahead (length (pairs n)) coins

@@ -72,7 +72,7 @@ fn push_pairs<const N: usize>(x: &Shares<N>, y: &Shares<N>, coins: &mut Coins, w
     requires room { length wires.old.items ≤ N * N }
     ensures items { wires.new.items ≡ wires.old.items
         ++ map (product_wire words N (listed words x.now) (listed words y.now) (fresh_of words (pairs N) (coins_of N coins.old)))
-          (joined (λ i. pair_row i (N - suc i)) N) }
+        (joined (λ i. pair_row i (N - suc i)) N) }
     ensures count { length wires.new.items ≡ length wires.old.items + 3 * length (pairs N) }
     ensures spent { coins.new.used ≡ coins.old.used + length (pairs N) }
     ensures same { coins.new.words ≡ coins.old.words }

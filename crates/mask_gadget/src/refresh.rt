@@ -17,11 +17,7 @@ use mask_tape::Coins;
 ///
 /// For each pair `i < j` in order, a coin is added to share i and to share j. The wires are for each pair the coin, and
 /// then share i and share j with it. What `wires` held before is dropped.
-pub fn ref_gadget<const N: usize>(
-    x: Shares<N>,
-    coins: &mut Coins,
-    wires: &mut Wires,
-) -> Shares<N>
+pub fn ref_gadget<const N: usize>(x: Shares<N>, coins: &mut Coins, wires: &mut Wires) -> Shares<N>
     requires some { 2 ≤ N }
     requires few { N ≤ 8 }
     requires coins { length (pairs N) ≤ left coins.old }
@@ -74,6 +70,7 @@ fn add_to_pair<const N: usize>(
         ≡ slice_set (slice_set parts.old i (bit_xor (slice_index parts.old i) coin)) j (bit_xor (slice_index parts.old j) coin) }
     ensures items { wires.new.items
         ≡ wires.old.items ++ coin ∷ bit_xor (slice_index parts.old i) coin ∷ bit_xor (slice_index parts.old j) coin ∷ [] }
+    ensures count { length wires.new.items ≡ length wires.old.items + 3 }
 {
     parts[i] ^= coin;
     parts[j] ^= coin;

@@ -20,7 +20,7 @@ pub loop-i-init : goal.loop-i-init
 loop-i-init g c =
     let r : ℕ → ℕ → ℕ = fresh_of words (pairs g.row.N) (coins_of g.row.N c.args.coins.now) in
     let made = front_made g.row.N (listed words c.args.x) (listed words c.args.y) r c.push_products.new.wires.items c.push_pairs.new.wires.items
-        c.push_products.ensures.items c.push_pairs.ensures.items in
+    c.push_products.ensures.items c.push_pairs.ensures.items in
     record {
       items = made ∙ ap (map (product_wire words g.row.N (listed words c.args.x) (listed words c.args.y) r)) (sym (append-nil (front g.row.N)));
       count = let all = length-pairs g.row.N in omega arith;
@@ -33,7 +33,7 @@ loop-i-preserved g c =
     let r : ℕ → ℕ → ℕ = fresh_of words (pairs g.row.N) (coins_of g.row.N c.args.coins.now) in
     let lt : c.loop-i.i < g.row.N = omega arith in
     let share = share_more g.row.N (listed words c.args.x) (listed words c.args.y) r c.loop-i.wires.items c.loop-i.i c.push_row.result lt
-        c.loop-i.invariant.items c.push_row.ensures.sum in
+    c.loop-i.invariant.items c.push_row.ensures.sum in
     record {
       items = rows_more g.row.N (listed words c.args.x) (listed words c.args.y) r c.loop-i.wires.items c.push_row.new.wires.items c.loop-i.i lt
           c.loop-i.invariant.items c.push_row.ensures.items;

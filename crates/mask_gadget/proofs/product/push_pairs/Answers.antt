@@ -40,13 +40,13 @@ columns-preserved g c =
     let low : c.rows.i < c.columns.j = omega arith in
     let place : c.columns.coins.used ≡ c.args.coins.now.used + pair_number g.row.N c.rows.i c.columns.j = omega arith in
     let coin : c.next-fresh.result ≡ r c.rows.i c.columns.j =
-        c.next-fresh.ensures.value
-        ∙ rw (c.columns.invariant.same, place) (sym (coin_at c.args.coins.now g.row.N c.rows.i c.columns.j low (omega arith))) in
+    c.next-fresh.ensures.value
+    ∙ rw (c.columns.invariant.same, place) (sym (coin_at c.args.coins.now g.row.N c.rows.i c.columns.j low (omega arith))) in
     let pushed : c.push-in-columns-2.new.self.items
-        ≡ ((c.columns.wires.items ++ c.next-fresh.result ∷ [])
-          ++ bit_xor c.next-fresh.result (bit_and (get_or c.args.x.now c.rows.i 0) (get_or c.args.y.now c.columns.j 0)) ∷ [])
-          ++ bit_xor (bit_xor c.next-fresh.result (bit_and (get_or c.args.x.now c.rows.i 0) (get_or c.args.y.now c.columns.j 0)))
-            (bit_and (get_or c.args.x.now c.columns.j 0) (get_or c.args.y.now c.rows.i 0)) ∷ [] = cc in
+    ≡ ((c.columns.wires.items ++ c.next-fresh.result ∷ [])
+    ++ bit_xor c.next-fresh.result (bit_and (get_or c.args.x.now c.rows.i 0) (get_or c.args.y.now c.columns.j 0)) ∷ [])
+    ++ bit_xor (bit_xor c.next-fresh.result (bit_and (get_or c.args.x.now c.rows.i 0) (get_or c.args.y.now c.columns.j 0)))
+    (bit_and (get_or c.args.x.now c.columns.j 0) (get_or c.args.y.now c.rows.i 0)) ∷ [] = cc in
     record {
       items = pushed
           ∙ pair_more g.row.N (listed words c.args.x.now) (listed words c.args.y.now) r c.rows.wires.items c.columns.wires.items c.rows.i c.columns.j

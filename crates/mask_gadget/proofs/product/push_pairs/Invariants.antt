@@ -8,20 +8,20 @@ use Rattle.mask_gadget.proofs.product.push_pairs.Given as goal
 
 abbrev pub invariant-columns : goal.invariant-columns
 invariant-columns g l = record {
-    items : l.wires.items ≡ l.initial.wires.items
+  items : l.wires.items ≡ l.initial.wires.items
       ++ map (product_wire words g.row.N (listed words l.x) (listed words l.y) (fresh_of words (pairs g.row.N) (coins_of g.row.N l.fn.coins)))
-        (pair_row l.i (l.j - suc l.i));
-    count : length l.wires.items ≡ length l.initial.wires.items + 3 * (l.j - suc l.i);
-    used : l.coins.used ≡ l.fn.coins.used + pairs_before g.row.N l.i + (l.j - suc l.i);
-    same : l.coins.words ≡ l.fn.coins.words
-  }
+      (pair_row l.i (l.j - suc l.i));
+  count : length l.wires.items ≡ length l.initial.wires.items + 3 * (l.j - suc l.i);
+  used : l.coins.used ≡ l.fn.coins.used + pairs_before g.row.N l.i + (l.j - suc l.i);
+  same : l.coins.words ≡ l.fn.coins.words;
+}
 
 abbrev pub invariant-rows : goal.invariant-rows
 invariant-rows g l = record {
-    items : l.wires.items ≡ l.initial.wires.items
+  items : l.wires.items ≡ l.initial.wires.items
       ++ map (product_wire words g.row.N (listed words l.x) (listed words l.y) (fresh_of words (pairs g.row.N) (coins_of g.row.N l.fn.coins)))
-        (joined (λ i. pair_row i (g.row.N - suc i)) l.i);
-    count : length l.wires.items ≡ length l.initial.wires.items + 3 * pairs_before g.row.N l.i;
-    used : l.coins.used ≡ l.fn.coins.used + pairs_before g.row.N l.i;
-    same : l.coins.words ≡ l.fn.coins.words
-  }
+      (joined (λ i. pair_row i (g.row.N - suc i)) l.i);
+  count : length l.wires.items ≡ length l.initial.wires.items + 3 * pairs_before g.row.N l.i;
+  used : l.coins.used ≡ l.fn.coins.used + pairs_before g.row.N l.i;
+  same : l.coins.words ≡ l.fn.coins.words;
+}

@@ -14,13 +14,13 @@ loop-m-preserved g c =
     let term : ℕ → ℕ = λ k. get_or base (cross_place g.row.N c.args.i k) 0 in
     let so_far : ℕ → ℕ = λ m. row_sum words first term c.args.i (other c.args.i m) in
     let place : c.cross_place.result ≡ cross_place g.row.N c.args.i (other c.args.i c.loop-m.m) =
-        c.cross_place.ensures.value ∙ ap (cross_place g.row.N c.args.i) c.other.ensures in
+    c.cross_place.ensures.value ∙ ap (cross_place g.row.N c.args.i) c.other.ensures in
     let within : c.cross_place.result < length base = omega arith in
     let read = c.deref-in-loop-m.ensures.0 in
     let value : bit_xor c.loop-m.sum (get_or c.deref-in-loop-m.result.now c.cross_place.result 0) ≡ so_far c.loop-m.m =
-        ap (λ (xs : List ℕ). bit_xor c.loop-m.sum (get_or xs c.cross_place.result 0)) read
-        ∙ sum_more base (each so_far c.loop-m.m) c.loop-m.wires.items first (cross_place g.row.N c.args.i) c.args.i c.loop-m.m c.loop-m.sum
-        c.cross_place.result c.loop-m.invariant.items place within c.loop-m.invariant.sum in
+    ap (λ (xs : List ℕ). bit_xor c.loop-m.sum (get_or xs c.cross_place.result 0)) read
+    ∙ sum_more base (each so_far c.loop-m.m) c.loop-m.wires.items first (cross_place g.row.N c.args.i) c.args.i c.loop-m.m c.loop-m.sum
+    c.cross_place.result c.loop-m.invariant.items place within c.loop-m.invariant.sum in
     let joined = append_assoc base (each so_far c.loop-m.m) (so_far c.loop-m.m ∷ []) in
     record {
       items = rw (each-more so_far c.loop-m.m) (c.push.ensures.items ∙ rw (value, c.loop-m.invariant.items) joined);

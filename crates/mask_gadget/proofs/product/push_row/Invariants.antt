@@ -7,8 +7,8 @@ use Rattle.mask_gadget.proofs.product.push_row.Given as goal
 
 abbrev pub invariant-loop-m : goal.invariant-loop-m
 invariant-loop-m g l = record {
-    items : l.wires.items ≡ l.initial.wires.items
+  items : l.wires.items ≡ l.initial.wires.items
       ++ each (λ m. row_sum words (get_or l.fn.wires.items (l.i * g.row.N + l.i) 0) (λ k. get_or l.fn.wires.items (cross_place g.row.N l.i k) 0) l.i (other l.i m)) l.m;
-    count : length l.wires.items ≡ length l.initial.wires.items + l.m;
-    sum : l.sum ≡ partial words (get_or l.fn.wires.items (l.i * g.row.N + l.i) 0) (λ k. get_or l.fn.wires.items (cross_place g.row.N l.i k) 0) l.i l.m
-  }
+  count : length l.wires.items ≡ length l.initial.wires.items + l.m;
+  sum : l.sum ≡ partial words (get_or l.fn.wires.items (l.i * g.row.N + l.i) 0) (λ k. get_or l.fn.wires.items (cross_place g.row.N l.i k) 0) l.i l.m;
+}
