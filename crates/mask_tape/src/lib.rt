@@ -2,5 +2,11 @@
 #![tactic(auto)]
 
 mod coins;
+mod spreading;
+mod tape;
 
 pub use coins::Coins;
+pub use tape::{Tape, TapeError};
+
+#[cfg(test)]
+mod tests;
