@@ -1,5 +1,5 @@
 -- The stretch of a tape: the kept bits of a last byte and then new bytes, and what is kept after it.
-use Rattle.std.proofs.Common.{◌≡◌, ℕ, ◌+◌, ◌-◌, ◌*◌, ◌/◌, ◌<◌, ◌≤◌, Bool, List, [], ◌∷◌, ◌++◌, length, drop, get_or, refl, sym, ap, ◌∙◌, arith, length-drop}
+use Rattle.std.proofs.Common.{◌≡◌, ℕ, ◌+◌, ◌-◌, ◌*◌, ◌/◌, ◌≤◌, Bool, List, [], ◌∷◌, ◌++◌, length, drop, get_or, sym, ap, ◌∙◌, arith, length-drop}
 use Rattle.std.proofs.lemmas.List.{drop-append-le, drop-drop, drop_more, drop_all}
 use Rattle.mask_bits.specs.Reading.{low, lowest}
 use Rattle.mask_tape.specs.Tape.{bytes_for, IsSpread}
@@ -21,7 +21,7 @@ pub rest_is : (bytes : List ℕ) (from n count : ℕ) → length bytes ≡ count
     drop (from + n - 8 * count) (low (get_or bytes count 0 ∷ [])) ≡ drop n (drop from (low bytes))
 rest_is bytes from n count long le =
     let last : drop count bytes ≡ get_or bytes count 0 ∷ [] =
-        drop_more bytes count 0 (omega arith) ∙ ap (λ (l : List ℕ). get_or bytes count 0 ∷ l) (drop_all (count + 1) bytes (omega arith)) in
+    drop_more bytes count 0 (omega arith) ∙ ap (λ (l : List ℕ). get_or bytes count 0 ∷ l) (drop_all (count + 1) bytes (omega arith)) in
     let place : 8 * count + (from + n - 8 * count) ≡ from + n = omega arith in
     ap (λ (l : List ℕ). drop (from + n - 8 * count) (low l)) (sym last)
     ∙ ap (drop (from + n - 8 * count)) (low-drop bytes count)

@@ -84,7 +84,7 @@ impl Tape {
         ensures same { OnErr result (self.new ≡ self.old) }
         ensures left { OnErr result (E.left entropy.new ≡ E.left entropy.old) }
         ensures failed { IfErr result (λ e. e ≡ Failed → Rose (E.faults entropy.old) (E.faults entropy.new)
-          × (E.wanted entropy.new ≡ bytes_for self.old (lanes * bits)) × (1 ≤ E.wanted entropy.new)) }
+            × (E.wanted entropy.new ≡ bytes_for self.old (lanes * bits)) × (1 ≤ E.wanted entropy.new)) }
         ensures no_memory { IfErr result (λ e. e ≡ NoMemory → entropy.new ≡ entropy.old) }
 
         // No new byte is needed: the entropy isn't asked.
@@ -114,11 +114,11 @@ fn draw<E: Entropy>(
 ) -> Result<Vec<u8>, TapeError>
     requires { count ≤ 2 ^ 33 }
     ensures ok { IfOk result (λ bytes. (fresh : List ℕ) × (bytes.items ≡ last ∷ fresh) × (length fresh ≡ count)
-      × Takes (E.left entropy.old) (E.left entropy.new) fresh) }
+        × Takes (E.left entropy.old) (E.left entropy.new) fresh) }
     ensures wants { OnOk result (E.wanted entropy.new ≡ E.wanted entropy.old) }
     ensures left { OnErr result (E.left entropy.new ≡ E.left entropy.old) }
     ensures failed { IfErr result (λ e. e ≡ Failed → Rose (E.faults entropy.old) (E.faults entropy.new)
-      × (E.wanted entropy.new ≡ count) × (1 ≤ count)) }
+        × (E.wanted entropy.new ≡ count) × (1 ≤ count)) }
     ensures no_memory { IfErr result (λ e. e ≡ NoMemory → entropy.new ≡ entropy.old) }
     ensures unasked { count ≡ 0 → entropy.new ≡ entropy.old }
     ensures never_falls { NeverFalls (E.faults entropy.old) (E.faults entropy.new) }

@@ -1,4 +1,4 @@
-use Rattle.std.proofs.Common.{◌≡◌, ℕ, ◌+◌, ◌-◌, ◌*◌, ◌<◌, ◌≤◌, ◌∷◌, length, drop, get_or, arith, ◌∙◌, ap, sym, length-drop}
+use Rattle.std.proofs.Common.{◌≡◌, ℕ, ◌+◌, ◌-◌, ◌<◌, length, drop, get_or, arith, sym, length-drop}
 use Rattle.std.proofs.lemmas.List.{drop_more}
 use Rattle.mask_bits.specs.Reading.{low, number}
 use Rattle.mask_tape.proofs.Windows.{number-low_cons, eight_bytes}

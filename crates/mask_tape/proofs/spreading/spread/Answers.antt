@@ -1,4 +1,4 @@
-use Rattle.std.proofs.Common.{◌≡◌, ℕ, ◌+◌, ◌-◌, ◌*◌, ◌<◌, ◌≤◌, length, get_or, arith}
+use Rattle.std.proofs.Common.{length, arith}
 use Rattle.mask_tape.proofs.Lanes.{spread_by_bits}
 use Rattle.mask_tape.proofs.spreading.spread.Goals as goal
 

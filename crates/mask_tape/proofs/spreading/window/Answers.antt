@@ -1,6 +1,6 @@
-use Rattle.std.proofs.Common.{◌≡◌, ℕ, ◌+◌, ◌-◌, ◌*◌, ◌/◌, ◌%◌, ◌<◌, ◌≤◌, false, length, drop, take, get_or, arith, ◌∙◌, ap, sym, length-drop}
+use Rattle.std.proofs.Common.{◌≡◌, ℕ, ◌+◌, ◌-◌, ◌*◌, ◌/◌, ◌%◌, ◌<◌, false, length, drop, take, get_or, arith, ◌∙◌, ap, length-drop}
 use Rattle.std.proofs.lemmas.List.{length-take}
-use Rattle.mask_bits.specs.Reading.{bit, low, number}
+use Rattle.mask_bits.specs.Reading.{low}
 use Rattle.mask_tape.proofs.Windows.{bit-number, bit-shifted, bit-cut, in_part, power}
 use Rattle.mask_tape.proofs.spreading.window.Goals as goal
 

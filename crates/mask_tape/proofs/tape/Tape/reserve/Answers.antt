@@ -1,7 +1,6 @@
-use Rattle.std.proofs.Common.{◌≡◌, ℕ, ◌+◌, ◌-◌, ◌*◌, ◌/◌, ◌≤◌, Bool, List, [], ◌∷◌, ◌++◌, length, drop, take, get_or, arith, ◌∙◌, ap, sym}
+use Rattle.std.proofs.Common.{◌≡◌, ℕ, ◌+◌, ◌-◌, ◌*◌, ◌/◌, List, [], ◌∷◌, ◌++◌, length, drop, get_or, arith, ◌∙◌, ap, sym}
 use Rattle.std.proofs.lemmas.List.{take_at, get_or_read}
 use Rattle.mask_bits.specs.Reading.{low}
-use Rattle.mask_tape.specs.Tape.{bytes_for, IsDrawn, IsSpread}
 use Rattle.mask_tape.proofs.Stretches.{stretch, count_is, rest_is, spread_same}
 use Rattle.mask_tape.proofs.tape.Tape.reserve.Goals as goal
 
@@ -16,12 +15,12 @@ returns-clause-drawn g c =
     let few = c.self.invariant.1 in
     let long : length c.in_ok-bytes.bytes.items ≡ count + 1 = ap length ok.1 ∙ omega (arith, ok.2) in
     let whole : c.args.self.now ++ low ok.0 ≡ drop from (low bytes) =
-        stretch c.args.self.now c.self.inside.last from ok.0 few c.self.view_is ∙ ap (λ (l : List ℕ). drop from (low l)) (sym ok.1) in
+    stretch c.args.self.now c.self.inside.last from ok.0 few c.self.view_is ∙ ap (λ (l : List ℕ). drop from (low l)) (sym ok.1) in
     let last : c.index.result.now ≡ get_or bytes count 0 = get_or_read bytes count c.index.result.now (omega arith) c.index.ensures 0 in
     let filled : length c.spread.new.words ≡ c.in_ok-words.words.len = omega (arith, c.spread.ensures.count) in
     let words : c.new.result.words ≡ c.spread.new.words =
-        c.new.ensures.words
-        ∙ take_at c.spread.new.words (drop (length c.spread.new.words) c.in_ok-words.words.items) c.in_ok-words.words.len filled in
+    c.new.ensures.words
+    ∙ take_at c.spread.new.words (drop (length c.spread.new.words) c.in_ok-words.words.items) c.in_ok-words.words.len filled in
     record {
       fresh = ok.0;
       needed = ok.2 ∙ count_is c.args.self.now c.self.inside.last from n some few c.self.view_is;
