@@ -1,5 +1,5 @@
 -- How many pairs there are, where they stand, and that all fits for up to 8 shares.
-use Rattle.std.proofs.Common.{◌≡◌, ℕ, zero, suc, ◌+◌, ◌-◌, ◌*◌, ◌/◌, ◌<◌, ◌≤◌, ◌⊎◌, inl, inr, length, arith, lit≤, refl, sym, ◌∙◌, add-one}
+use Rattle.std.proofs.Common.{◌≡◌, ℕ, zero, suc, ◌+◌, ◌-◌, ◌*◌, ◌/◌, ◌<◌, ◌≤◌, inl, inr, length, arith, lit≤, refl, sym, ◌∙◌, add-one}
 use Rattle.std.proofs.Math.Nat.{mul-le-mul_right}
 use Rattle.mask_circuit.specs.Wires.{pairs}
 use Rattle.mask_laws.specs.Names.{pairs_before, pair_number, pair_count}

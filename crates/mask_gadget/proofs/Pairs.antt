@@ -1,9 +1,9 @@
 -- The wires of the pairs of a product, one pair after another.
-use Rattle.std.proofs.Common.{◌≡◌, ℕ, suc, ◌+◌, ◌-◌, ◌<◌, ◌≤◌, List, [], ◌∷◌, ◌++◌, length, map, take, drop, get_or, bit_xor, bit_and, refl, sym, ap, ◌∙◌, arith, append_assoc, flat_map}
+use Rattle.std.proofs.Common.{◌≡◌, ℕ, suc, ◌+◌, ◌-◌, ◌<◌, List, [], ◌∷◌, ◌++◌, length, map, drop, get_or, bit_xor, bit_and, refl, ◌∙◌, arith, append_assoc, flat_map}
 use Rattle.std.proofs.lemmas.List.{get_or-take, get_or-drop, map-append}
 use Rattle.mask_circuit.specs.Ring.{words}
-use Rattle.mask_circuit.specs.Wires.{Fresh, Left, Right, Pair, Shares, joined, row_pairs, pairs, fresh_of, product_wire}
-use Rattle.mask_laws.specs.Names.{IsPair, pair_number}
+use Rattle.mask_circuit.specs.Wires.{Pair, Shares, joined, row_pairs, pairs, fresh_of, product_wire}
+use Rattle.mask_laws.specs.Names.{pair_number}
 use Rattle.mask_tape.specs.Drawn.{Drawn}
 use Rattle.mask_gadget.specs.Gadgets.{coins_of, pair_names, pair_row}
 use Rattle.mask_gadget.proofs.Lookup.{fresh_of-at}

@@ -1,18 +1,18 @@
 -- The wires of a product: its parts, what stands where among them, and the sums of its rows.
-use Rattle.std.proofs.Common.{◌≡◌, ◌≢◌, ℕ, zero, suc, pred, ◌+◌, ◌-◌, ◌*◌, ◌<◌, ◌≤◌, ◌⊎◌, inl, inr, Bool, true, false, cond, nat_lt, List, [], ◌∷◌, ◌++◌, length, map, get_or, slice_get, Some, bit_xor, bit_and, flat_map, refl, sym, ap, ◌∙◌, arith, append_assoc, length-append, add-one}
+use Rattle.std.proofs.Common.{◌≡◌, ◌≢◌, ℕ, zero, suc, pred, ◌+◌, ◌-◌, ◌*◌, ◌<◌, ◌≤◌, inl, inr, List, [], ◌∷◌, ◌++◌, length, map, get_or, slice_get, Some, bit_xor, bit_and, flat_map, refl, sym, ap, ◌∙◌, arith, append_assoc, length-append}
 use Rattle.std.proofs.lemmas.Bool.{cases_lt, lt-ltb, le-ltb}
 use Rattle.std.proofs.lemmas.List.{get_or_append_left, map-append}
 use Rattle.std.proofs.Math.Nat.{mul-le-mul_right}
-use Rattle.mask_circuit.specs.Ring.{Ring, words}
-use Rattle.mask_circuit.specs.Wires.{Wire, Share, Product, Fresh, Left, Right, Partial, Pair, Shares, each, joined, pairs, other, row_wire, row_sum, cross, product_wire, product_names}
+use Rattle.mask_circuit.specs.Ring.{words}
+use Rattle.mask_circuit.specs.Wires.{Wire, Share, Product, Fresh, Right, Pair, Shares, each, joined, pairs, other, row_wire, row_sum, cross, product_wire, product_names}
 use Rattle.mask_laws.specs.Names.{pair_number, pair_count}
 use Rattle.mask_laws.proofs.LocalNumbers.{product_in_order}
 use Rattle.mask_laws.proofs.Places.{length-each, length-joined, length-threes}
 use Rattle.mask_gadget.specs.Gadgets.{pair_names, pair_row, cross_place}
-use Rattle.mask_gadget.proofs.Made.{map-each, map-joined, each-same, joined-same, joined-more, each-more}
+use Rattle.mask_gadget.proofs.Made.{map-each, map-joined, each-same, joined-same, joined-more}
 use Rattle.mask_gadget.proofs.Numbers.{length-pairs, pair_number-lt}
 use Rattle.mask_gadget.proofs.Pairs.{by_rows}
-use Rattle.mask_gadget.proofs.Rows.{partial, partial-more, row_wire-sum, row_sum-same, other-apart, other-below}
+use Rattle.mask_gadget.proofs.Rows.{partial, partial-more, row_wire-sum, row_sum-same, other-below}
 
 -- one partner more in a row that reads what stood before the row
 pub sum_more : (base more items : List ℕ) (first : ℕ) (place : ℕ → ℕ) (i m sum p : ℕ) → items ≡ base ++ more → p ≡ place (other i m) → p < length base →

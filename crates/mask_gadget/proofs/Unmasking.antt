@@ -1,10 +1,10 @@
 -- What the output shares of a gate share: the gate's value.
-use Rattle.std.proofs.Common.{◌≡◌, ℕ, zero, suc, ◌<◌, Bool, true, not, ◌&&◌, List, [], ◌∷◌, length, map, get_or, refl, sym, ap, ◌∙◌, arith}
+use Rattle.std.proofs.Common.{◌≡◌, ℕ, zero, suc, ◌<◌, Bool, not, ◌&&◌, List, [], ◌∷◌, length, sym, ap, ◌∙◌, arith}
 use Rattle.std.proofs.lemmas.List.{ext_get_or}
 use Rattle.mask_circuit.specs.declared.gates.Gate.TheVariants.{Xor, Not, And, Ref}
 use Rattle.mask_circuit.specs.Value.{xor}
-use Rattle.mask_circuit.specs.Ring.{Ring, bits}
-use Rattle.mask_circuit.specs.Wires.{Share, each, gate_out, gate_wire, pairs, fresh_of}
+use Rattle.mask_circuit.specs.Ring.{bits}
+use Rattle.mask_circuit.specs.Wires.{Share, each, gate_out, pairs, fresh_of}
 use Rattle.mask_laws.proofs.Places.{length-each}
 use Rattle.mask_shares.specs.Sharing.{listed, all_listed, unmasked}
 use Rattle.mask_shares.proofs.Lists.{get_or-each}

@@ -17,3 +17,6 @@ pub use refresh::ref_gadget;
 
 /// The wires of one gate, by local number. A product of 8 shares has 204.
 pub type Wires = ArrayVec<u64, 204>;
+
+#[cfg(test)]
+mod tests;

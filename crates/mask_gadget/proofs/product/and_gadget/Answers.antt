@@ -1,17 +1,16 @@
-use Rattle.std.proofs.Common.{◌≡◌, ℕ, suc, ◌+◌, ◌-◌, ◌*◌, ◌<◌, ◌≤◌, List, [], ◌∷◌, ◌++◌, length, map, get_or, arith, ◌∙◌, ap, sym, lit<, append_assoc}
+use Rattle.std.proofs.Common.{ℕ, ◌<◌, [], ◌∷◌, map, arith, ◌∙◌, ap, sym}
 use Rattle.std.proofs.lemmas.List.{append-nil, length-set, length-replicate}
 use Rattle.std.proofs.lemmas.List.Edits.{fill_by_more}
 use Rattle.mask_circuit.specs.declared.gates.Gate.TheVariants.{And}
 use Rattle.mask_circuit.specs.Ring.{words}
-use Rattle.mask_circuit.specs.Wires.{Wire, Share, joined, pairs, product_wire, fresh_of}
-use Rattle.mask_laws.specs.Names.{pair_count}
+use Rattle.mask_circuit.specs.Wires.{Wire, Share, pairs, product_wire, fresh_of}
 use Rattle.mask_bits.specs.Lanes.{lane}
 use Rattle.mask_shares.specs.Sharing.{listed}
 use Rattle.mask_shares.proofs.Lists.{is_each}
 use Rattle.mask_gadget.specs.Gadgets.{coins_of}
 use Rattle.mask_gadget.proofs.Made.{map-each}
-use Rattle.mask_gadget.proofs.Numbers.{small, row-fits, length-pairs}
-use Rattle.mask_gadget.proofs.Products.{front, row_names, front_made, rows_more, share_more, all_made}
+use Rattle.mask_gadget.proofs.Numbers.{length-pairs}
+use Rattle.mask_gadget.proofs.Products.{front, front_made, rows_more, share_more, all_made}
 use Rattle.mask_gadget.proofs.Lanes.{out_of_words, wires_of_words, length-lane}
 use Rattle.mask_gadget.proofs.Unmasking.{unmasked-and}
 use Rattle.mask_gadget.proofs.product.and_gadget.Goals as goal

@@ -1,4 +1,3 @@
-use Rattle.std.proofs.Common.{◌∙◌, subst, sym}
 use Rattle.mask_gadget.proofs.Numbers.{pair_number-closed, pair_number-lt}
 use Rattle.mask_gadget.proofs.product.pair_number.Goals as goal
 

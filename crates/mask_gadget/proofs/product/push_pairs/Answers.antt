@@ -1,7 +1,7 @@
-use Rattle.std.proofs.Common.{◌≡◌, ℕ, suc, ◌+◌, ◌-◌, ◌*◌, ◌<◌, ◌≤◌, [], ◌∷◌, ◌++◌, bit_xor, bit_and, length, map, get_or, arith, ◌∙◌, ap, sym, lit<}
+use Rattle.std.proofs.Common.{◌≡◌, ℕ, suc, ◌+◌, ◌-◌, ◌<◌, [], ◌∷◌, ◌++◌, bit_xor, bit_and, length, get_or, arith, ◌∙◌, ap, sym, lit<}
 use Rattle.mask_circuit.specs.Wires.{pairs, fresh_of, product_wire}
 use Rattle.mask_circuit.specs.Ring.{words}
-use Rattle.mask_laws.specs.Names.{pairs_before, pair_number, pair_count}
+use Rattle.mask_laws.specs.Names.{pair_number}
 use Rattle.mask_shares.specs.Sharing.{listed}
 use Rattle.mask_gadget.specs.Gadgets.{coins_of, pair_row}
 use Rattle.mask_gadget.proofs.Numbers.{small, pair_number-lt, length-pairs, pairs_before-all, pairs_before-more}

@@ -1,4 +1,4 @@
-use Rattle.std.proofs.Common.{◌≡◌, ℕ, ◌+◌, ◌*◌, ◌++◌, length, get_or, bit_and}
+use Rattle.std.proofs.Common.{◌≡◌, ◌+◌, ◌*◌, ◌++◌, length, get_or, bit_and}
 use Rattle.mask_circuit.specs.Wires.{each, joined}
 use Rattle.mask_gadget.proofs.product.push_products.Given as goal
 

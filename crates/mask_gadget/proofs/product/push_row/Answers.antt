@@ -1,9 +1,9 @@
-use Rattle.std.proofs.Common.{◌≡◌, ℕ, suc, ◌+◌, ◌-◌, ◌*◌, ◌<◌, List, [], ◌∷◌, ◌++◌, length, get_or, bit_xor, arith, append_assoc, ◌∙◌, ap, sym, add-one}
+use Rattle.std.proofs.Common.{◌≡◌, ℕ, ◌+◌, ◌*◌, ◌<◌, List, [], ◌∷◌, length, get_or, bit_xor, arith, append_assoc, ◌∙◌, ap, add-one}
 use Rattle.mask_circuit.specs.Ring.{words}
 use Rattle.mask_circuit.specs.Wires.{each, other, row_sum}
 use Rattle.mask_gadget.specs.Gadgets.{cross_place}
 use Rattle.mask_gadget.proofs.Made.{each-more}
-use Rattle.mask_gadget.proofs.Rows.{partial, partial-end}
+use Rattle.mask_gadget.proofs.Rows.{partial-end}
 use Rattle.mask_gadget.proofs.Products.{sum_more}
 use Rattle.mask_gadget.proofs.product.push_row.Goals as goal
 

@@ -1,4 +1,4 @@
-use Rattle.std.proofs.Common.{◌≡◌, ℕ, ◌+◌, ◌*◌, ◌++◌, length, get_or}
+use Rattle.std.proofs.Common.{◌≡◌, ◌+◌, ◌*◌, ◌++◌, length, get_or}
 use Rattle.mask_circuit.specs.Ring.{words}
 use Rattle.mask_circuit.specs.Wires.{each, other, row_sum}
 use Rattle.mask_gadget.specs.Gadgets.{cross_place}

@@ -1,9 +1,9 @@
-use Rattle.std.proofs.Common.{◌≡◌, ℕ, suc, ◌+◌, ◌-◌, ◌*◌, ◌<◌, ◌≤◌, List, [], ◌∷◌, ◌++◌, length, map, get_or, arith, ◌∙◌, ap, sym, lit<}
-use Rattle.std.proofs.lemmas.List.{append-nil, length-append}
+use Rattle.std.proofs.Common.{◌≡◌, ℕ, suc, ◌+◌, ◌-◌, ◌<◌, [], ◌∷◌, length, arith, ◌∙◌, ap, sym}
+use Rattle.std.proofs.lemmas.List.{append-nil}
 use Rattle.mask_circuit.specs.declared.gates.Gate.TheVariants.{Ref}
 use Rattle.mask_circuit.specs.Ring.{words}
 use Rattle.mask_circuit.specs.Wires.{Wire, Share, joined, pairs, refresh_wire, fresh_of}
-use Rattle.mask_laws.specs.Names.{pairs_before, pair_number, pair_count}
+use Rattle.mask_laws.specs.Names.{pair_number}
 use Rattle.mask_bits.specs.Lanes.{lane}
 use Rattle.mask_shares.specs.Sharing.{listed}
 use Rattle.mask_shares.proofs.Lists.{is_each}
@@ -11,7 +11,7 @@ use Rattle.mask_gadget.specs.Gadgets.{coins_of}
 use Rattle.mask_gadget.proofs.Made.{map-each}
 use Rattle.mask_gadget.proofs.Numbers.{small, pair_number-lt, length-pairs, pairs_before-all, pairs_before-more}
 use Rattle.mask_gadget.proofs.Pairs.{coin_at, row_more, column_more}
-use Rattle.mask_gadget.proofs.Refreshes.{update_names, none_done, row_begins, row_ends, pair_done, pair_wires, all_done, all_updates}
+use Rattle.mask_gadget.proofs.Refreshes.{update_names, row_begins, row_ends, pair_done, pair_wires, all_done, all_updates}
 use Rattle.mask_gadget.proofs.Lanes.{out_of_words, wires_of_words, length-lane}
 use Rattle.mask_gadget.proofs.Unmasking.{unmasked-ref}
 use Rattle.mask_gadget.proofs.refresh.ref_gadget.Goals as goal
