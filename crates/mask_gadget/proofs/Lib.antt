@@ -1,0 +1,10 @@
+pub mod Lanes
+pub mod Lookup
+pub mod Made
+pub mod Numbers
+pub mod Pairs
+pub mod Products
+pub mod Refreshes
+pub mod Rows
+pub mod Totals
+pub mod Unmasking

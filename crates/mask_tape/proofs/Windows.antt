@@ -1,0 +1,75 @@
+-- The bits of bytes, read as a number.
+use Rattle.std.proofs.Common.{◌≡◌, ℕ, zero, suc, ◌+◌, ◌-◌, ◌*◌, ◌/◌, ◌%◌, ◌^◌, ◌<◌, ◌≤◌, Bool, true, false, nat_eq, List, [], ◌∷◌, length, take, drop, get_or, refl, sym, ap, ◌∙◌, arith, if◌then◌else◌}
+use Rattle.std.specs.Int.{bit_at}
+use Rattle.std.proofs.lemmas.Nat.{and_mask, pow-add}
+use Rattle.std.proofs.Math.Nat.{div-div-eq-div-mul, mod-eq_of_lt}
+use Rattle.std.proofs.lemmas.Nat.Bits.{bit_at-suc, bit_at_lowest, bit_at_and, bit_at_ones, bit_at_ones_above, bit_at-lt, bit_at-zero}
+use Rattle.std.proofs.Math.Pow.{pow_mono}
+use Rattle.std.proofs.Math.Seq.{drop-append-add}
+use Rattle.std.proofs.lemmas.List.{drop_all, get_or_append_left, get_or-drop, take-append-drop}
+use Rattle.mask_bits.specs.Reading.{bit, low, lowest, number}
+use Rattle.mask_bits.proofs.Numbers.{number-append, number-lowest, number-lt, length-lowest}
+use Rattle.mask_bits.proofs.Bytes.{low-append, length-low}
+
+-- the bits of a number of bits are these
+pub bit-number : (bits : List Bool) (j : ℕ) → bit j (number bits) ≡ get_or bits j false
+bit-number [] j = rw (bit_at-zero j) refl
+bit-number (b ∷ bits) zero = rw (bit_at_lowest (number (b ∷ bits))) (go b)
+  where
+    go : (b : Bool) → nat_eq (((if b then 1 else 0) + 2 * number bits) % 2) 1 ≡ b
+    go true = let e : (1 + 2 * number bits) % 2 ≡ 1 = omega arith in rw e refl
+    go false = let e : (0 + 2 * number bits) % 2 ≡ 0 = omega arith in rw e refl
+bit-number (b ∷ bits) (suc j) = rw (bit_at-suc (number (b ∷ bits)) j, half b) (bit-number bits j)
+  where
+    half : (b : Bool) → ((if b then 1 else 0) + 2 * number bits) / 2 ≡ number bits
+    half true = omega arith
+    half false = omega arith
+
+-- bits from place s on, and only the first k of them
+pub bit-shifted : (n s k j : ℕ) → j < k → bit j (n / 2 ^ s % 2 ^ k) ≡ bit (s + j) n
+bit-shifted n s k j lt =
+    let moved : bit_at (n / 2 ^ s) j ≡ bit_at n (s + j) = rw (div-div-eq-div-mul n (2 ^ s) (2 ^ j), ← pow-add 2 s j) refl in
+    let small = bit_at-lt (n / 2 ^ s) j in
+    let kept : bit_at (n / 2 ^ s % 2 ^ k) j ≡ bit_at (n / 2 ^ s) j =
+    rw (← and_mask (n / 2 ^ s) k, bit_at_and (n / 2 ^ s) (2 ^ k - 1) j, bit_at_ones k j lt) (omega arith) in
+    ap (λ b. nat_eq b 1) (kept ∙ moved)
+
+pub bit-cut : (n k j : ℕ) → k ≤ j → bit j (n % 2 ^ k) ≡ false
+bit-cut n k j le =
+    let none : bit_at (n % 2 ^ k) j ≡ 0 = rw (← and_mask n k, bit_at_and n (2 ^ k - 1) j, bit_at_ones_above k j le) (omega arith) in
+    ap (λ b. nat_eq b 1) none
+
+-- the number of one byte more, at the low end
+pub number-low_cons : (byte : ℕ) (bytes : List ℕ) → byte < 256 → number (low (byte ∷ bytes)) ≡ number (low bytes) * 256 + byte
+number-low_cons byte bytes small =
+    let first : byte % 2 ^ 8 ≡ byte = mod-eq_of_lt small in
+    number-append (lowest 8 byte) (low bytes) ∙ rw (number-lowest 8 byte, length-lowest 8 byte, first) (omega arith)
+
+-- the reading without the first bytes
+pub low-drop : (bytes : List ℕ) (k : ℕ) → low (drop k bytes) ≡ drop (8 * k) (low bytes)
+low-drop [] k = rw (drop_all {X = ℕ} k [] (omega arith), drop_all {X = Bool} (8 * k) [] (omega arith)) refl
+low-drop (x ∷ bytes) zero = refl
+low-drop (x ∷ bytes) (suc k) =
+    let e : 8 * suc k ≡ 8 + 8 * k = omega arith in rw e (low-drop bytes k ∙ sym (drop-append-add (lowest 8 x) (low bytes) (8 * k)))
+
+-- a bit of some of the bytes
+pub in_part : (bytes : List ℕ) (k m j : ℕ) → j < 8 * length (take m (drop k bytes)) →
+    get_or (low (take m (drop k bytes))) j false ≡ get_or (low bytes) (8 * k + j) false
+in_part bytes k m j lt =
+    let within : j < length (low (take m (drop k bytes))) = rw (length-low (take m (drop k bytes))) lt in
+    sym (get_or_append_left (low (take m (drop k bytes))) (low (drop m (drop k bytes))) false j within)
+    ∙ ap (λ (bits : List Bool). get_or bits j false) (sym (low-append (take m (drop k bytes)) (drop m (drop k bytes))))
+    ∙ ap (λ (l : List ℕ). get_or (low l) j false) (take-append-drop m (drop k bytes))
+    ∙ ap (λ (bits : List Bool). get_or bits j false) (low-drop bytes k) ∙ get_or-drop (8 * k) (low bytes) j false
+
+-- a number of at most eight bytes fits in 64 bits
+pub eight_bytes : (bytes : List ℕ) → length bytes ≤ 8 → number (low bytes) < 2 ^ 64
+eight_bytes bytes few =
+    let bound : number (low bytes) < 2 ^ (8 * length bytes) = rw (length-low bytes) at (number-lt (low bytes)) in
+    let top : 2 ^ (8 * length bytes) ≤ 2 ^ 64 = pow_mono {i = 8 * length bytes} {j = 64} (omega arith) in omega arith
+
+-- one shifted left by up to 64 places
+pub power : (count : ℕ) → count ≤ 64 → 1 * 2 ^ count % 2 ^ 128 ≡ 2 ^ count
+power count few =
+    let top : 2 ^ count ≤ 2 ^ 64 = pow_mono {i = count} {j = 64} few in
+    let one : 1 * 2 ^ count ≡ 2 ^ count = omega arith in rw one (mod-eq_of_lt (omega arith))

@@ -1,0 +1,132 @@
+//! The tape: entropy read bit by bit, of which the bits of a last byte are kept.
+
+ghost use Rattle.std.specs.Prelude.{◌≡◌, ℕ, ◌+◌, ◌*◌, ◌^◌, ◌<◌, ◌≤◌, [], ◌∷◌, List, length, IfOk, IfErr, OnOk, OnErr};
+ghost use Rattle.mask_io.specs.Outside.{Takes, Rose, NeverFalls};
+ghost use Rattle.mask_tape.specs.Tape.{bytes_for, IsDrawn};
+ghost use Rattle.mask_tape.specs.declared.tape.TapeError.TheVariants.{Failed, NoMemory};
+
+use crate::coins::Coins;
+use crate::spreading::spread;
+use mask_io::Entropy;
+use std::alloc::{AllocError, Global};
+use std::marker::Model;
+
+/// Why a tape gives no coins. The tape, and what the entropy has left, are as before.
+#[derive(Clone, Copy, Debug, PartialEq, Eq)]
+pub enum TapeError {
+    /// The entropy failed.
+    Failed,
+    /// There is no memory. The entropy wasn't asked.
+    NoMemory,
+}
+
+impl From<AllocError> for TapeError {
+    ghost from_gives = { λ _ e. e ≡ NoMemory };
+
+    fn from(_error: AllocError) -> TapeError {
+        TapeError::NoMemory
+    }
+}
+
+impl From<mask_io::Failed> for TapeError {
+    ghost from_gives = { λ _ e. e ≡ Failed };
+
+    fn from(_failed: mask_io::Failed) -> TapeError {
+        TapeError::Failed
+    }
+}
+
+/// The bits of the last byte of entropy that weren't used yet: 0 to 7 of them.
+#[derive(Drop)]
+pub struct Tape {
+    last: u8,
+    // The bits of the last byte from this one on are kept, so none at 8.
+    from: usize,
+}
+
+impl Model for Tape {
+    ghost use Rattle.std.specs.Prelude.{◌≤◌, [], ◌∷◌, Bool, List, drop};
+    ghost use Rattle.mask_bits.specs.Reading.{low};
+
+    ghost Value = { List Bool };
+
+    ghost view = { λ t. drop t.from (low (t.last ∷ [])) };
+
+    ghost invariant = { λ t. (1 ≤ t.from) × (t.from ≤ 8) };
+}
+
+impl Tape {
+    /// A tape that keeps no bit.
+    pub fn new() -> Tape
+        ensures { result ≡ [] }
+    {
+        Tape { last: 0, from: 8 }
+    }
+
+    /// Draws `bits` coins for each of the first `lanes` lanes: the next `lanes · bits` bits of the tape.
+    ///
+    /// The kept bits come first, and then those of just as many new bytes as are needed, the lowest bit of a byte first.
+    /// Lane l owns bits `l · bits` to `(l + 1) · bits - 1` of this stretch, and word k of the coins has in lane l bit k of
+    /// the lane's own part. The entropy is asked once, for all new bytes, and not at all where none is needed.
+    pub fn reserve<E: Entropy>(
+        &mut self,
+        alloc: Global,
+        entropy: &mut E,
+        lanes: u32,
+        bits: u64,
+    ) -> Result<Coins, TapeError>
+        requires some { 1 ≤ lanes }
+        requires few { lanes ≤ 64 }
+        requires bound { lanes * bits ≤ 2 ^ 33 }
+        ensures drawn { IfOk result (λ coins. IsDrawn self.old self.new (E.left entropy.old) (E.left entropy.new) lanes bits coins.words) }
+        ensures unused { IfOk result (λ coins. coins.used ≡ 0) }
+        ensures wants { OnOk result (E.wanted entropy.new ≡ E.wanted entropy.old) }
+        ensures same { OnErr result (self.new ≡ self.old) }
+        ensures left { OnErr result (E.left entropy.new ≡ E.left entropy.old) }
+        ensures failed { IfErr result (λ e. e ≡ Failed → Rose (E.faults entropy.old) (E.faults entropy.new)
+            × (E.wanted entropy.new ≡ bytes_for self.old (lanes * bits)) × (1 ≤ E.wanted entropy.new)) }
+        ensures no_memory { IfErr result (λ e. e ≡ NoMemory → entropy.new ≡ entropy.old) }
+
+        // No new byte is needed: the entropy isn't asked.
+        ensures unasked { bytes_for self.old (lanes * bits) ≡ 0 → entropy.new ≡ entropy.old }
+        ensures never_falls { NeverFalls (E.faults entropy.old) (E.faults entropy.new) }
+    {
+        let lanes = lanes as usize;
+        let bits = bits as usize;
+        let end = self.from + lanes * bits;
+        // Byte 0 is the last one, so bit `end` stands in byte `count` or right after it.
+        let count = (end - 1) / 8;
+        let mut words = vec![in alloc; 0; bits]?;
+        let bytes = draw(alloc, entropy, self.last, count)?;
+        spread(&bytes, self.from, lanes, &mut words);
+        self.last = bytes[count];
+        self.from = end - 8 * count;
+        Ok(Coins::new(words))
+    }
+}
+
+// This byte, and then `count` new ones.
+fn draw<E: Entropy>(
+    alloc: Global,
+    entropy: &mut E,
+    last: u8,
+    count: usize,
+) -> Result<Vec<u8>, TapeError>
+    requires { count ≤ 2 ^ 33 }
+    ensures ok { IfOk result (λ bytes. (fresh : List ℕ) × (bytes.items ≡ last ∷ fresh) × (length fresh ≡ count)
+        × Takes (E.left entropy.old) (E.left entropy.new) fresh) }
+    ensures wants { OnOk result (E.wanted entropy.new ≡ E.wanted entropy.old) }
+    ensures left { OnErr result (E.left entropy.new ≡ E.left entropy.old) }
+    ensures failed { IfErr result (λ e. e ≡ Failed → Rose (E.faults entropy.old) (E.faults entropy.new)
+        × (E.wanted entropy.new ≡ count) × (1 ≤ count)) }
+    ensures no_memory { IfErr result (λ e. e ≡ NoMemory → entropy.new ≡ entropy.old) }
+    ensures unasked { count ≡ 0 → entropy.new ≡ entropy.old }
+    ensures never_falls { NeverFalls (E.faults entropy.old) (E.faults entropy.new) }
+{
+    let mut bytes = vec![in alloc; 0; count + 1]?;
+    bytes[0] = last;
+    if count > 0 {
+        entropy.fill(&mut bytes[1..])?;
+    }
+    Ok(bytes)
+}
