@@ -1,5 +1,5 @@
 -- Flags on values, and the fences that they show.
-use Rattle.std.proofs.Common.{◌≡◌, ◌≢◌, ℕ, suc, ◌+◌, ◌<◌, ◌≤◌, ◌⊎◌, inl, inr, Bool, true, false, List, length, get_or, slice_set, replicate, Some, None, refl, ap, sym, ◌∙◌, subst, arith, get_or-set_same, get_or-set_other}
+use Rattle.std.proofs.Common.{◌≡◌, ℕ, ◌+◌, ◌<◌, ◌≤◌, ◌⊎◌, inl, inr, Bool, true, false, List, length, get_or, replicate, Some, None, refl, ap, sym, ◌∙◌, subst, arith, get_or-set_same, get_or-set_other}
 use Rattle.std.specs.declared.option.Option.{Option}
 use Rattle.std.proofs.Math.ListN.{length-set}
 use Rattle.std.proofs.lemmas.Bool.{cases_eq, cases_lt, true≢false}
@@ -7,7 +7,7 @@ use Rattle.std.proofs.lemmas.List.{get_or-replicate, get_or_past, length-replica
 use Rattle.mask_circuit.specs.declared.gates.Gate.{Gate}
 use Rattle.mask_circuit.specs.declared.gates.Gate.TheVariants.{Zero, One, Xor, Not, And, Ref}
 use Rattle.mask_circuit.specs.Netlist.{Netlist, IsCircuit, value_count}
-use Rattle.mask_circuit.specs.Acceptance.{gate_at, Uses, output_at, IsFence, IsFenced, IsGap}
+use Rattle.mask_circuit.specs.Acceptance.{gate_at, Uses, output_at, IsFence}
 use Rattle.mask_laws.proofs.GateAt.{gate_at_within}
 use Rattle.mask_check.specs.Fencing.{IsFlagged, with_flag, with_operands, FlagsOperands, FencesBefore, IsRefresh}
 use Rattle.mask_check.specs.Marks.{HasOperandsBelow}

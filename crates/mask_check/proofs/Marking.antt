@@ -1,11 +1,10 @@
 -- Marks that are given, passed on and taken.
-use Rattle.std.proofs.Common.{◌≡◌, ◌≢◌, ℕ, suc, ◌+◌, ◌<◌, ◌≤◌, ◌⊎◌, inl, inr, List, length, get_or, slice_set, bit_or, Some, None, refl, sym, ◌∙◌, subst, arith, get_or-set_same, get_or-set_other}
+use Rattle.std.proofs.Common.{◌≡◌, ◌≢◌, ℕ, ◌<◌, ◌⊎◌, inl, inr, List, length, get_or, bit_or, Some, None, refl, sym, ◌∙◌, subst, get_or-set_same, get_or-set_other}
 use Rattle.std.specs.declared.option.Option.{Option}
 use Rattle.std.proofs.Math.ListN.{length-set}
 use Rattle.std.proofs.lemmas.Bool.{cases_eq}
 use Rattle.mask_circuit.specs.declared.gates.Gate.{Gate}
 use Rattle.mask_circuit.specs.declared.gates.Gate.TheVariants.{Zero, One, Xor, Not, And, Ref}
-use Rattle.mask_circuit.specs.Netlist.{OperandsBelow}
 use Rattle.mask_check.specs.Marks.{HasBit, IsMarked, HasOperandsBelow, with_marks, passed_on}
 use Rattle.mask_check.proofs.Words.{HasBit-or, HasBit-or_left, HasBit-or_right}
 

@@ -280,35 +280,26 @@ IsVisit-words c v g nl nr nl' nr' wl wr bit gate left right passed_left passed_r
   lowest = rw (← left, ← right) lowest;
 }
 
-passed_further : (c : Netlist) (start now new : List ℕ) (v n : ℕ) (g : Option Gate) → suc v ≡ n → IsCircuit c → n ≤ value_count c → g ≡ gate_at c v →
-    new ≡ passed_on g (get_or now v 0) (slice_set now v 0) → IsPassed c start now n → IsPassed c start new v
-passed_further c start now new v n g next is within gate passed old =
-    rw (passed, gate) (IsPassed-step c start now v is (omega arith) (subst (λ (x : ℕ). IsPassed c start now x) (sym next) old))
+-- the marks are one value further down, whatever is lowest then
+further : (c : Netlist) (left right nl nr nl' nr' : List ℕ) (v bit : ℕ) (g : Option Gate) (m lowest : Meeting) → IsCircuit c → IsVisit c v g nl nr nl' nr' bit →
+    HasCome c left right nl nr (suc v) m → IsLowestMeeting c left right v lowest → HasCome c left right nl' nr' v lowest
+further c left right nl nr nl' nr' v bit g m lowest is visit old is_lowest = record {
+  within = omega (arith, old.within);
+  on_left = rw (visit.left, visit.gate) (IsPassed-step c left nl v is old.within old.on_left);
+  on_right = rw (visit.right, visit.gate) (IsPassed-step c right nr v is old.within old.on_right);
+  lowest = is_lowest;
+}
 
 pub HasCome-new : (c : Netlist) (left right nl nr nl' nr' : List ℕ) (v n bit : ℕ) (g : Option Gate) (m : Meeting) → suc v ≡ n → IsCircuit c →
     IsVisit c v g nl nr nl' nr' bit → HasCome c left right nl nr n m → bit ≤ m.bit → HasCome c left right nl' nr' v (record { bit = bit; source = v })
-HasCome-new c left right nl nr nl' nr' v n bit g m next is visit old le =
-    let on_left = subst (λ (x : ℕ). IsPassed c left nl x) (sym next) old.on_left in
-    let on_right = subst (λ (x : ℕ). IsPassed c right nr x) (sym next) old.on_right in
+HasCome-new c left right nl nr nl' nr' v n bit g m next is visit before le =
+    let old = subst (λ (x : ℕ). HasCome c left right nl nr x m) (sym next) before in
     let at = subst (λ (x : Option Gate). IsLowestAt x (get_or nl v 0) (get_or nr v 0) bit) visit.gate visit.lowest in
-    let lowest = subst (λ (x : ℕ). IsLowestMeeting c left right x m) (sym next) old.lowest in
-    record {
-      within = omega (arith, old.within);
-      on_left = passed_further c left nl nl' v n g next is old.within visit.gate visit.left old.on_left;
-      on_right = passed_further c right nr nr' v n g next is old.within visit.gate visit.right old.on_right;
-      lowest = lowest_new c left right nl nr v bit m is (omega (arith, old.within)) on_left on_right at lowest le;
-    }
+    further c left right nl nr nl' nr' v bit g m _ is visit old (lowest_new c left right nl nr v bit m is old.within old.on_left old.on_right at old.lowest le)
 
 pub HasCome-old : (c : Netlist) (left right nl nr nl' nr' : List ℕ) (v n bit : ℕ) (g : Option Gate) (m : Meeting) → suc v ≡ n → IsCircuit c →
     IsVisit c v g nl nr nl' nr' bit → HasCome c left right nl nr n m → m.bit < bit → HasCome c left right nl' nr' v m
-HasCome-old c left right nl nr nl' nr' v n bit g m next is visit old lt =
-    let on_left = subst (λ (x : ℕ). IsPassed c left nl x) (sym next) old.on_left in
-    let on_right = subst (λ (x : ℕ). IsPassed c right nr x) (sym next) old.on_right in
+HasCome-old c left right nl nr nl' nr' v n bit g m next is visit before lt =
+    let old = subst (λ (x : ℕ). HasCome c left right nl nr x m) (sym next) before in
     let at = subst (λ (x : Option Gate). IsLowestAt x (get_or nl v 0) (get_or nr v 0) bit) visit.gate visit.lowest in
-    let lowest = subst (λ (x : ℕ). IsLowestMeeting c left right x m) (sym next) old.lowest in
-    record {
-      within = omega (arith, old.within);
-      on_left = passed_further c left nl nl' v n g next is old.within visit.gate visit.left old.on_left;
-      on_right = passed_further c right nr nr' v n g next is old.within visit.gate visit.right old.on_right;
-      lowest = lowest_old c left right nl nr v bit m is on_left on_right at lowest lt;
-    }
+    further c left right nl nr nl' nr' v bit g m _ is visit old (lowest_old c left right nl nr v bit m is old.on_left old.on_right at old.lowest lt)

@@ -1,10 +1,10 @@
 -- Marks on values: each value has a word of 64 marks, one for each product of a batch.
-use Rattle.std.specs.Prelude.{◌≡◌, ℕ, ◌+◌, ◌<◌, ◌≤◌, ◌⊎◌, List, length, slice_index, slice_set, bit_or, Some, None}
+use Rattle.std.specs.Prelude.{◌≡◌, ℕ, ◌<◌, ◌≤◌, ◌⊎◌, List, slice_index, slice_set, bit_or, Some, None}
 use Rattle.std.specs.declared.option.Option.{Option}
 use Rattle.std.specs.Int.{bit_at}
 use Rattle.mask_circuit.specs.declared.gates.Gate.{Gate}
 use Rattle.mask_circuit.specs.declared.gates.Gate.TheVariants.{Zero, One, Xor, Not, And, Ref}
-use Rattle.mask_circuit.specs.Netlist.{Netlist, OperandsBelow, value_count}
+use Rattle.mask_circuit.specs.Netlist.{Netlist, OperandsBelow}
 use Rattle.mask_circuit.specs.Acceptance.{Reaches}
 use Rattle.mask_check.specs.declared.backward.Meeting.{Meeting}
 

@@ -1,4 +1,4 @@
-use Rattle.std.proofs.Common.{ℕ, List, length, get_or, refl, ap, sym, ◌∙◌, arith}
+use Rattle.std.proofs.Common.{ℕ, List, length, get_or, ap, arith}
 use Rattle.mask_check.proofs.Flagging.{FencesBefore-start, FencesBefore-more, output_within}
 use Rattle.mask_check.proofs.fences.find_gap.Goals as goal
 

@@ -1,8 +1,7 @@
-use Rattle.std.proofs.Common.{ℕ, ◌<◌, ◌≤◌, sym, subst, arith}
+use Rattle.std.proofs.Common.{sym, subst, arith}
 use Rattle.mask_circuit.specs.Netlist.{value_count}
-use Rattle.mask_check.specs.Batches.{products_below}
 use Rattle.mask_check.specs.Verdicts.{IsAcceptedBelow}
-use Rattle.mask_check.proofs.Counting.{products_below-all, steps_below-batch, steps_below-most, steps_below-search}
+use Rattle.mask_check.proofs.Counting.{steps_below-batch, steps_below-most, steps_below-search}
 use Rattle.mask_check.proofs.Judging.{accepted_below, batch_empty, search_ended}
 use Rattle.mask_check.proofs.verdicts.judge.Goals as goal
 
