@@ -1,3 +1,4 @@
+pub mod Agreeing
 pub mod Lanes
 pub mod Lookup
 pub mod Made

@@ -28,13 +28,16 @@ pub fn and_gadget<const N: usize>(
     requires some { 2 ≤ N }
     requires few { N ≤ 8 }
     requires coins { length (pairs N) ≤ left coins.old }
-    ensures words { result ≡ gate_out words N (And 0 1) (all_listed words (x.entry ∷ y.entry ∷ [])) (coins_of N coins.old) }
-    ensures word_wires { wires.new.items ≡ gate_wires words N (And 0 1) (all_listed words (x.entry ∷ y.entry ∷ [])) (coins_of N coins.old) }
+    ensures words { result
+        ≡ gate_out words N (And 0 1) (all_listed words (x.entry ∷ y.entry ∷ [])) (coins_of N coins.old) }
+    ensures word_wires { wires.new.items
+        ≡ gate_wires words N (And 0 1) (all_listed words (x.entry ∷ y.entry ∷ [])) (coins_of N coins.old) }
     ensures shares { (l : ℕ) → lane l result
         ≡ gate_out bits N (And 0 1) (all_listed bits (lane l x.entry ∷ lane l y.entry ∷ [])) (lane l (coins_of N coins.old)) }
     ensures wires { (l : ℕ) → lane l wires.new.items
         ≡ gate_wires bits N (And 0 1) (all_listed bits (lane l x.entry ∷ lane l y.entry ∷ [])) (lane l (coins_of N coins.old)) }
-    ensures bit { (l : ℕ) → unmasked bits (lane l result) ≡ (unmasked bits (lane l x.entry) && unmasked bits (lane l y.entry)) }
+    ensures bit { (l : ℕ) → unmasked bits (lane l result)
+        ≡ (unmasked bits (lane l x.entry) && unmasked bits (lane l y.entry)) }
     ensures spent { coins.new.used ≡ coins.old.used + length (pairs N) }
     ensures same { coins.new.words ≡ coins.old.words }
 {
@@ -52,7 +55,8 @@ pub fn and_gadget<const N: usize>(
 fn push_products<const N: usize>(x: &Shares<N>, y: &Shares<N>, wires: &mut Wires)
     requires few { N ≤ 8 }
     requires empty { wires.old.items ≡ [] }
-    ensures items { wires.new.items ≡ joined (λ i. each (λ j. bit_and (slice_index x.now i) (slice_index y.now j)) N) N }
+    ensures items { wires.new.items
+        ≡ joined (λ i. each (λ j. bit_and (slice_index x.now i) (slice_index y.now j)) N) N }
     ensures count { length wires.new.items ≡ N * N }
     ensures operands { (length x.now ≡ N) × (length y.now ≡ N) }
 {
@@ -71,7 +75,8 @@ fn push_pairs<const N: usize>(x: &Shares<N>, y: &Shares<N>, coins: &mut Coins, w
     requires coins { length (pairs N) ≤ left coins.old }
     requires room { length wires.old.items ≤ N * N }
     ensures items { wires.new.items ≡ wires.old.items
-        ++ map (product_wire words N (listed words x.now) (listed words y.now) (fresh_of words (pairs N) (coins_of N coins.old)))
+        ++ map (product_wire words N (listed words x.now) (listed words y.now)
+        (fresh_of words (pairs N) (coins_of N coins.old)))
         (joined (λ i. pair_row i (N - suc i)) N) }
     ensures count { length wires.new.items ≡ length wires.old.items + 3 * length (pairs N) }
     ensures spent { coins.new.used ≡ coins.old.used + length (pairs N) }
@@ -96,9 +101,11 @@ fn push_row<const N: usize>(i: usize, wires: &mut Wires) -> u64
     requires row { i < N }
     requires front { length wires.old.items ≡ N * N + 3 * pair_count N + i * (N - 1) }
     ensures items { wires.new.items ≡ wires.old.items
-        ++ each (λ m. row_sum words (slice_index wires.old.items (i * N + i)) (λ k. slice_index wires.old.items (cross_place N i k)) i (other i m)) (N - 1) }
+        ++ each (λ m. row_sum words (slice_index wires.old.items (i * N + i))
+        (λ k. slice_index wires.old.items (cross_place N i k)) i (other i m)) (N - 1) }
     ensures count { length wires.new.items ≡ length wires.old.items + (N - 1) }
-    ensures sum { result ≡ row_sum words (slice_index wires.old.items (i * N + i)) (λ k. slice_index wires.old.items (cross_place N i k)) i (N - 1) }
+    ensures sum { result ≡ row_sum words (slice_index wires.old.items (i * N + i))
+        (λ k. slice_index wires.old.items (cross_place N i k)) i (N - 1) }
 {
     let mut sum = wires[i * N + i];
     for m in 0..N - 1 {

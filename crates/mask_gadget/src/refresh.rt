@@ -21,8 +21,10 @@ pub fn ref_gadget<const N: usize>(x: Shares<N>, coins: &mut Coins, wires: &mut W
     requires some { 2 ≤ N }
     requires few { N ≤ 8 }
     requires coins { length (pairs N) ≤ left coins.old }
-    ensures words { result ≡ gate_out words N (Ref 0) (all_listed words (x.entry ∷ [])) (coins_of N coins.old) }
-    ensures word_wires { wires.new.items ≡ gate_wires words N (Ref 0) (all_listed words (x.entry ∷ [])) (coins_of N coins.old) }
+    ensures words { result
+        ≡ gate_out words N (Ref 0) (all_listed words (x.entry ∷ [])) (coins_of N coins.old) }
+    ensures word_wires { wires.new.items
+        ≡ gate_wires words N (Ref 0) (all_listed words (x.entry ∷ [])) (coins_of N coins.old) }
     ensures shares { (l : ℕ) → lane l result
         ≡ gate_out bits N (Ref 0) (all_listed bits (lane l x.entry ∷ [])) (lane l (coins_of N coins.old)) }
     ensures wires { (l : ℕ) → lane l wires.new.items

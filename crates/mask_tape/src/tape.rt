@@ -78,7 +78,8 @@ impl Tape {
         requires some { 1 ≤ lanes }
         requires few { lanes ≤ 64 }
         requires bound { lanes * bits ≤ 2 ^ 33 }
-        ensures drawn { IfOk result (λ coins. IsDrawn self.old self.new (E.left entropy.old) (E.left entropy.new) lanes bits coins.words) }
+        ensures drawn { IfOk result (λ coins.
+            IsDrawn self.old self.new (E.left entropy.old) (E.left entropy.new) lanes bits coins.words) }
         ensures unused { IfOk result (λ coins. coins.used ≡ 0) }
         ensures wants { OnOk result (E.wanted entropy.new ≡ E.wanted entropy.old) }
         ensures same { OnErr result (self.new ≡ self.old) }
@@ -94,7 +95,7 @@ impl Tape {
         let lanes = lanes as usize;
         let bits = bits as usize;
         let end = self.from + lanes * bits;
-        // Byte 0 is the last one, so bit `end` stands in byte `count` or right after it.
+        // Byte 0 is the last one so far, so the stretch ends within byte `count`, and this byte is the last one then.
         let count = (end - 1) / 8;
         let mut words = vec![in alloc; 0; bits]?;
         let bytes = draw(alloc, entropy, self.last, count)?;
