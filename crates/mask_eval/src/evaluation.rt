@@ -39,11 +39,11 @@ pub fn eval<const N: usize, W: Watch, L: Ledger>(
     requires fits { Fits frame.old circuit.now }
     requires coins { draws circuit.now N ≤ left coins.old }
     requires ready { W.ready watch.old circuit.now (N - 1) lanes ≡ true }
-    ensures words { frame.new.outputs ≡ outs words N circuit.now (all_listed words (input_values frame.old)) (ahead (draws circuit.now N) coins.old) }
+    ensures words { frame.new.outputs ≡ outs words circuit.now N (all_listed words (input_values frame.old)) (ahead (draws circuit.now N) coins.old) }
 
     // In each lane the outputs are those of the circuit expanded into shares ..
     ensures shares { (l : ℕ) → l < 64 → map (lane l) frame.new.outputs
-        ≡ outs bits N circuit.now (all_listed bits (map (lane l) (input_values frame.old))) (lane l (ahead (draws circuit.now N) coins.old)) }
+        ≡ outs bits circuit.now N (all_listed bits (map (lane l) (input_values frame.old))) (lane l (ahead (draws circuit.now N) coins.old)) }
 
     // .. and share the plain outputs on the bits that the inputs share.
     ensures plain { (l : ℕ) → l < 64 → map (λ v. unmasked bits (lane l v)) frame.new.outputs
