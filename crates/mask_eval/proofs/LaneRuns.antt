@@ -1,8 +1,8 @@
 -- A run on words is, in each lane, the run on the lane's bits; and what a frame holds after a run are its outputs.
-use Rattle.std.proofs.Common.{◌≡◌, ℕ, zero, suc, ◌<◌, ◌≤◌, Bool, true, false, cond, ◌==◌, List, [], ◌∷◌, length, map, take, drop, get_or, fold, All, refl, ap, ap₂, sym, subst, ◌∙◌, arith}
+use Rattle.std.proofs.Common.{◌≡◌, ℕ, zero, suc, ◌<◌, ◌≤◌, Bool, true, false, cond, ◌==◌, List, [], ◌∷◌, length, map, take, drop, get_or, fold, sum_by, All, refl, ap, ap₂, sym, subst, ◌∙◌, arith}
 use Rattle.std.proofs.Math.Path.{fun_ext}
 use Rattle.std.proofs.lemmas.Simd.{map-map}
-use Rattle.std.proofs.lemmas.List.{take-map, get_or-take, ext_get_or, length-map}
+use Rattle.std.proofs.lemmas.List.{take-map, drop-map, get_or-map, get_or-take, ext_get_or}
 use Rattle.mask_bits.specs.Reading.{bit}
 use Rattle.mask_bits.specs.Lanes.{lane}
 use Rattle.mask_circuit.specs.declared.gates.Gate.{Gate}
@@ -11,7 +11,7 @@ use Rattle.mask_circuit.specs.Netlist.{Netlist, IsCircuit, value_count}
 use Rattle.mask_circuit.specs.Value.{xor, plain}
 use Rattle.mask_circuit.specs.Ring.{Ring, bits, words}
 use Rattle.mask_circuit.specs.Wires.{Wire, Share, Product, Fresh, Left, Right, Partial, Shares, each, share_wire, gate_draws, gate_wire}
-use Rattle.mask_circuit.specs.Expansion.{Trace, shares_of, put, start, run, expand, outs}
+use Rattle.mask_circuit.specs.Expansion.{Trace, shares_of, put, start, run, expand, draws, outs}
 use Rattle.mask_laws.specs.Sharing.{xor_all, unshared, unshared_inputs}
 use Rattle.mask_laws.proofs.Bits.{xor-false, xor_assoc}
 use Rattle.mask_laws.proofs.Unmasking.{outputs_unmask}
@@ -19,18 +19,9 @@ use Rattle.mask_shares.specs.Sharing.{listed, all_listed, unmasked}
 use Rattle.mask_shares.proofs.Lists.{length-each, get_or-each, is_each, each-same}
 use Rattle.mask_gadget.proofs.Made.{map-each}
 use Rattle.mask_gadget.proofs.Lanes.{Keeps, KeepsUnit, keeps_lane, keeps_unit, gate_wire-keeps, all_listed-keeps, length-lane}
-use Rattle.mask_eval.specs.Frames.{SameShares}
+use Rattle.mask_tape.specs.Drawn.{Drawn, ahead}
+use Rattle.mask_eval.specs.Frames.{Held, Fits, SameShares, input_values}
 use Rattle.mask_eval.proofs.Runs.{run-same}
-
-drop-map : {X Y : Type 0} (h : X → Y) (n : ℕ) (xs : List X) → drop n (map h xs) ≡ map h (drop n xs)
-drop-map h zero xs = refl
-drop-map h (suc n) [] = refl
-drop-map h (suc n) (x ∷ xs) = drop-map h n xs
-
-get_or-map : {X Y : Type 0} (h : X → Y) (xs : List X) (k : ℕ) (d : X) → get_or (map h xs) k (h d) ≡ h (get_or xs k d)
-get_or-map h [] k d = refl
-get_or-map h (x ∷ xs) zero d = refl
-get_or-map h (x ∷ xs) (suc k) d = get_or-map h xs k d
 
 -- LANES
 
@@ -102,7 +93,7 @@ outs_held c N old new outputs r is copied counts same = copied ∙ go c.outputs 
     value u lu count =
         is_each _ N (get_or new u []) count
         (λ i li. same u i lu li
-            ∙ run-same words N c.gates c.inputs (start words (all_listed words old)) (start words (all_listed words (take c.inputs old))) r is.gates inputs u i lu li)
+        ∙ run-same words N c.gates c.inputs (start words (all_listed words old)) (start words (all_listed words (take c.inputs old))) r is.gates inputs u i lu li)
 
     go : (us : List ℕ) → All (λ u. u < value_count c) us → All (λ v. length v ≡ N) (map (λ u. get_or new u []) us) →
         map (λ u. get_or new u []) us ≡ map (λ u. each (shares_of (expand words c N (all_listed words (take c.inputs old)) r) u) N) us
@@ -110,6 +101,27 @@ outs_held c N old new outputs r is copied counts same = copied ∙ go c.outputs 
     go (u ∷ us) below counts =
         ap₂ (λ (y : List ℕ) (z : List (List ℕ)). y ∷ z) (value u (below 0 0 (omega arith)) (counts 0 [] (omega arith)))
         (go us (λ k d l. below (suc k) d (omega arith)) (λ k d l. counts (suc k) d (omega arith)))
+
+-- the same of a frame, where the parts are given otherwise
+pub outputs_of_frame : (c : Netlist) (N : ℕ) (frame : Held) (gates : List Gate) (numbers : List ℕ) (inputs : ℕ) (old new seen copies : List (List ℕ))
+    (coins : Drawn) → IsCircuit c → Fits frame c → gates ≡ c.gates → numbers ≡ c.outputs → inputs ≡ frame.inputs → old ≡ frame.values → seen ≡ new →
+    copies ≡ map (λ u. get_or seen u []) numbers → All (λ v. length v ≡ N) copies →
+    SameShares N (length old) (all_listed words new)
+    (shares_of (run words N gates inputs (start words (all_listed words old)) (ahead (sum_by (gate_draws N) gates) coins))) →
+    copies ≡ outs words c N (all_listed words (input_values frame)) (ahead (draws c N) coins)
+outputs_of_frame c N frame gates numbers inputs old new seen copies coins is fits gates_are numbers_are inputs_are old_is seen_is copied counts same =
+    outs_held c N frame.values new copies (ahead (draws c N) coins) is
+    (copied ∙ ap₂ (λ (vs : List (List ℕ)) (us : List ℕ). map (λ u. get_or vs u []) us) seen_is numbers_are) counts all
+    ∙ ap (λ (n : ℕ). outs words c N (all_listed words (take n frame.values)) (ahead (draws c N) coins)) (sym fits.inputs)
+  where
+    all : SameShares N (value_count c) (all_listed words new)
+        (shares_of (run words N c.gates c.inputs (start words (all_listed words frame.values)) (ahead (draws c N) coins)))
+    all u i lu li =
+        let count : length old ≡ length frame.values = ap length old_is in
+        same u i (omega (arith, count, fits.values)) li
+        ∙ ap₂ (λ (gs : List Gate) (n : ℕ). run words N gs n (start words (all_listed words old)) (ahead (sum_by (gate_draws N) gs) coins) u (Share i))
+        gates_are (inputs_are ∙ fits.inputs)
+        ∙ ap (λ (vs : List (List ℕ)). run words N c.gates c.inputs (start words (all_listed words vs)) (ahead (draws c N) coins) u (Share i)) old_is
 
 -- PLAIN VALUES
 
@@ -143,7 +155,7 @@ unshared_in_lane l N values counts = each-same _ _ (length values) at ∙ each_m
 
     at : (k : ℕ) → k < length values → unshared N (all_listed bits (map (lane l) values) k) ≡ unmasked bits (lane l (get_or values k []))
     at k lt =
-        ap (λ (xs : List Bool). xor_all (each (listed bits xs) N)) (get_or-map (lane l) values k [])
+        ap (λ (xs : List Bool). xor_all (each (listed bits xs) N)) (get_or-map (lane l) values k [] [] lt)
         ∙ of_list (lane l (get_or values k [])) (length-lane l N (get_or values k []) (counts k [] lt))
 
 -- the outputs share the plain outputs

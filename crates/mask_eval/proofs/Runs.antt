@@ -1,5 +1,5 @@
 -- A run gate by gate: it depends on the shares of earlier values alone, and a frame that holds these goes on with it.
-use Rattle.std.proofs.Common.{◌≡◌, ℕ, zero, suc, pred, ◌+◌, ◌<◌, ◌≤◌, ◌≢◌, ◌⊎◌, inl, inr, cond, nat_lt, List, [], ◌∷◌, length, map, take, drop, set, get_or, All, sum_by, refl, ap, ap₂, sym, ◌∙◌, arith}
+use Rattle.std.proofs.Common.{◌≡◌, ℕ, zero, suc, pred, ◌+◌, ◌<◌, ◌≤◌, ◌≢◌, ◌⊎◌, inl, inr, cond, ◌==◌, nat_lt, List, [], ◌∷◌, length, map, take, drop, set, get_or, All, sum_by, refl, ap, ap₂, sym, ◌∙◌, arith}
 use Rattle.std.proofs.lemmas.Bool.{eq-eqb, cases_order}
 use Rattle.std.proofs.lemmas.List.{take-take, drop-take, get_or-set_other}
 use Rattle.std.proofs.lemmas.List.Sums.{sum_by-cons}
@@ -31,7 +31,7 @@ module _ {X : Type 0} (R : Ring X) where
       cross R a b r i j ≡ cross R a' b' r i j
   cross-same a a' b b' r i j ai aj bi bj =
       ap (λ (x : X). cond (nat_lt i j) (r i j) x)
-      (ap₂ R.add (ap₂ R.add (refl {x = r j i}) (ap₂ R.mul aj bi)) (ap₂ R.mul ai bj))
+      (ap₂ R.add (ap (R.add (r j i)) (ap₂ R.mul aj bi)) (ap₂ R.mul ai bj))
 
   -- an output share of a gate depends on the operands' shares alone
   share-same : (N n : ℕ) (g : Gate) (s s' : ℕ → Shares X) (r : List X) → OperandsBelow n g → SameShares N n s s' →
@@ -44,8 +44,10 @@ module _ {X : Type 0} (R : Ring X) where
   share-same (suc N) n (And u v) s s' r below same i lt =
       row_sum-same R _ _ _ _ i N (ap₂ R.mul (same u i below.0 lt) (same v i below.1 lt))
       (λ j le ne. cross-same (s u) (s' u) (s v) (s' v) (fresh_of R (pairs (suc N)) r) i j (same u i below.0 lt) (same u j below.0 (omega arith))
-          (same v i below.1 lt) (same v j below.1 (omega arith)))
-  share-same (suc N) n (Ref u) s s' r below same i lt = row_sum-same R _ _ _ _ i N (same u i below lt) (λ j le ne. refl)
+      (same v i below.1 lt) (same v j below.1 (omega arith)))
+  share-same (suc N) n (Ref u) s s' r below same i lt =
+      let term : ℕ → X = fresh_between (fresh_of R (pairs (suc N)) r) i in
+      row_sum-same R (s u i) (s' u i) term term i N (same u i below lt) (λ j le ne. refl)
 
   -- so do the shares of all later values
   pub run-same : (N : ℕ) (gs : List Gate) (n : ℕ) (t t' : Trace X) (r : List X) → AreGates n gs → SameShares N n (shares_of t) (shares_of t') →
@@ -53,8 +55,9 @@ module _ {X : Type 0} (R : Ring X) where
   run-same N [] n t t' r are same u i lu li = same u i (omega arith) li
   run-same N (g ∷ gs) n t t' r are same u i lu li =
       run-same N gs (suc n) _ _ (drop (gate_draws N g) r) are.1
-      (λ v j lv lj. put-same n v (Share j) _ _ t t' (λ e. share-same N n g (shares_of t) (shares_of t') (take (gate_draws N g) r) are.0 same j lj)
-          (λ ne. same v j (omega arith) lj))
+      (λ v j lv lj. put-same n v (Share j) (gate_wire R N g (shares_of t) (take (gate_draws N g) r)) (gate_wire R N g (shares_of t') (take (gate_draws N g) r)) t t'
+      (λ e. share-same N n g (shares_of t) (shares_of t') (take (gate_draws N g) r) are.0 same j lj)
+      (λ ne. same v j (omega arith) lj))
       u i (omega arith) li
 
   -- a run reads as many fresh bits as it draws

@@ -58,7 +58,13 @@ pub fn eval<const N: usize, W: Watch, L: Ledger>(
 {
     let circuit = circuit.circuit();
     let used = coins.used();
-    eval_gates(circuit.gates(), frame.inputs, &mut frame.values, coins, steps);
+    eval_gates(
+        circuit.gates(),
+        frame.inputs,
+        &mut frame.values,
+        coins,
+        steps,
+    );
     copy_values(circuit.outputs(), &frame.values, &mut frame.outputs);
     write_values(&frame.values[..frame.inputs], &mut frame.input_words);
     write_values(&frame.outputs, &mut frame.output_words);

@@ -72,6 +72,5 @@ impl Watch for NoWatch {
         _coins: &[u64],
         _outputs: &[u64],
         _lanes: u32,
-    ) {
-    }
+    ) {}
 }
