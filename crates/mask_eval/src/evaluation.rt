@@ -1,6 +1,6 @@
 //! The evaluation of a circuit.
 
-ghost use Rattle.std.specs.Prelude.{◌≡◌, ℕ, ◌+◌, ◌-◌, ◌*◌, ◌<◌, ◌≤◌, true, length, take, map};
+ghost use Rattle.std.specs.Prelude.{◌≡◌, ℕ, ◌+◌, ◌-◌, ◌*◌, ◌<◌, ◌≤◌, length, take, map};
 ghost use Rattle.std.specs.List.{concat};
 ghost use Rattle.mask_bits.specs.Lanes.{lane};
 ghost use Rattle.mask_circuit.specs.Ring.{bits, words};
@@ -38,7 +38,7 @@ pub fn eval<const N: usize, W: Watch, L: Ledger>(
     requires few_lanes { lanes ≤ 64 }
     requires fits { Fits frame.old circuit.now }
     requires coins { draws circuit.now N ≤ left coins.old }
-    requires ready { W.ready watch.old circuit.now (N - 1) lanes ≡ true }
+    requires ready { W.ready watch.old circuit.now (N - 1) lanes }
     ensures words { frame.new.outputs ≡ outs words circuit.now N (all_listed words (input_values frame.old)) (ahead (draws circuit.now N) coins.old) }
 
     // In each lane the outputs are those of the circuit expanded into shares ..

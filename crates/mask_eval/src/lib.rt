@@ -10,3 +10,6 @@ mod words;
 pub use evaluation::eval;
 pub use frames::Frame;
 pub use watching::{NoWatch, Watch};
+
+#[cfg(test)]
+mod tests;

@@ -1,6 +1,6 @@
 //! What watches evaluations: it is told the inputs, the coins and the outputs of each lane.
 
-ghost use Rattle.std.specs.Prelude.{◌≡◌, ℕ, ◌+◌, ◌*◌, ◌<◌, ◌≤◌, Bool, true, List, length, None, Option, OnOk, IsOk, IsTrue};
+ghost use Rattle.std.specs.Prelude.{◌≡◌, ℕ, ◌+◌, ◌*◌, ◌≤◌, List, length, None, Option, OnOk, IsOk};
 ghost use Rattle.mask_circuit.specs.Netlist.{Netlist};
 ghost use Rattle.mask_circuit.specs.Expansion.{draws};
 ghost use Rattle.mask_eval.specs.Watching.{Told, reports, told_more};
@@ -16,7 +16,7 @@ pub trait Watch {
     ghost told: { Self → Option (List Told) };
 
     /// Whether it can take in the next report, for this circuit, order and number of lanes, without memory.
-    ghost ready: { Self → Netlist → ℕ → ℕ → Bool };
+    ghost ready: { Self → Netlist → ℕ → ℕ → Type 0 };
 
     /// Makes the watch ready for one report.
     fn room(&mut self, circuit: &Circuit, order: u32, lanes: u32) -> Result<(), AllocError>
@@ -24,7 +24,7 @@ pub trait Watch {
         requires few { order ≤ 7 }
         requires some_lanes { 1 ≤ lanes }
         requires few_lanes { lanes ≤ 64 }
-        ensures ready { OnOk result (ready self.new circuit.now order lanes ≡ true) }
+        ensures ready { OnOk result (ready self.new circuit.now order lanes) }
         ensures told { told self.new ≡ told self.old };
 
     /// Tells the watch of one evaluation of so many lanes. `inputs` has the shares of all inputs one value after another,
@@ -38,7 +38,7 @@ pub trait Watch {
         outputs: &[u64],
         lanes: u32,
     )
-        requires ready { ready self.old circuit.now order lanes ≡ true }
+        requires ready { ready self.old circuit.now order lanes }
         requires some { 1 ≤ order }
         requires few { order ≤ 7 }
         requires some_lanes { 1 ≤ lanes }
@@ -56,7 +56,7 @@ pub struct NoWatch;
 impl Watch for NoWatch {
     ghost told = { λ _. None };
 
-    ghost ready = { λ _ _ _ _. true };
+    ghost ready = { λ _ _ _ _. Unit {0} };
 
     fn room(&mut self, _circuit: &Circuit, _order: u32, _lanes: u32) -> Result<(), AllocError>
         ensures always { IsOk result }
