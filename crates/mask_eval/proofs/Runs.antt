@@ -1,0 +1,104 @@
+-- A run gate by gate: it depends on the shares of earlier values alone, and a frame that holds these goes on with it.
+use Rattle.std.proofs.Common.{◌≡◌, ℕ, zero, suc, pred, ◌+◌, ◌<◌, ◌≤◌, ◌≢◌, ◌⊎◌, inl, inr, cond, ◌==◌, nat_lt, List, [], ◌∷◌, length, map, take, drop, set, get_or, All, sum_by, refl, ap, ap₂, sym, ◌∙◌, arith}
+use Rattle.std.proofs.lemmas.Bool.{eq-eqb, cases_order}
+use Rattle.std.proofs.lemmas.List.{take-take, drop-take, get_or-set_other}
+use Rattle.std.proofs.lemmas.List.Sums.{sum_by-cons}
+use Rattle.std.proofs.lemmas.Grind.{get_or-set_at}
+use Rattle.mask_circuit.specs.declared.gates.Gate.{Gate}
+use Rattle.mask_circuit.specs.declared.gates.Gate.TheVariants.{Zero, One, Xor, Not, And, Ref}
+use Rattle.mask_circuit.specs.Netlist.{OperandsBelow, AreGates}
+use Rattle.mask_circuit.specs.Ring.{Ring}
+use Rattle.mask_circuit.specs.Wires.{Wire, Share, Shares, each, pairs, fresh_of, cross, fresh_between, gate_draws, gate_wire, gate_out}
+use Rattle.mask_circuit.specs.Expansion.{Trace, shares_of, put, start, run}
+use Rattle.mask_laws.proofs.Traces.{put-same, put-other}
+use Rattle.mask_shares.specs.Sharing.{listed, all_listed}
+use Rattle.mask_shares.proofs.Lists.{get_or-each}
+use Rattle.mask_gadget.proofs.Made.{map-each}
+use Rattle.mask_gadget.proofs.Rows.{row_sum-same}
+use Rattle.mask_eval.specs.Frames.{SameShares}
+
+-- operands below n are below m
+pub operands-wider : (n m : ℕ) (g : Gate) → n ≤ m → OperandsBelow n g → OperandsBelow m g
+operands-wider n m Zero le b = tt
+operands-wider n m One le b = tt
+operands-wider n m (Xor u v) le b = (omega (arith, b.0), omega (arith, b.1))
+operands-wider n m (Not u) le b = omega arith
+operands-wider n m (And u v) le b = (omega (arith, b.0), omega (arith, b.1))
+operands-wider n m (Ref u) le b = omega arith
+
+module _ {X : Type 0} (R : Ring X) where
+  cross-same : (a a' b b' : Shares X) (r : ℕ → ℕ → X) (i j : ℕ) → a i ≡ a' i → a j ≡ a' j → b i ≡ b' i → b j ≡ b' j →
+      cross R a b r i j ≡ cross R a' b' r i j
+  cross-same a a' b b' r i j ai aj bi bj =
+      ap (λ (x : X). cond (nat_lt i j) (r i j) x)
+      (ap₂ R.add (ap (R.add (r j i)) (ap₂ R.mul aj bi)) (ap₂ R.mul ai bj))
+
+  -- an output share of a gate depends on the operands' shares alone
+  share-same : (N n : ℕ) (g : Gate) (s s' : ℕ → Shares X) (r : List X) → OperandsBelow n g → SameShares N n s s' →
+      (i : ℕ) → i < N → gate_wire R N g s r (Share i) ≡ gate_wire R N g s' r (Share i)
+  share-same zero n g s s' r below same i lt = absurd (omega arith)
+  share-same (suc N) n Zero s s' r below same i lt = refl
+  share-same (suc N) n One s s' r below same i lt = refl
+  share-same (suc N) n (Xor u v) s s' r below same i lt = ap₂ R.add (same u i below.0 lt) (same v i below.1 lt)
+  share-same (suc N) n (Not u) s s' r below same i lt = ap (λ (x : X). cond (i == 0) (R.add x R.unit) x) (same u i below lt)
+  share-same (suc N) n (And u v) s s' r below same i lt =
+      row_sum-same R _ _ _ _ i N (ap₂ R.mul (same u i below.0 lt) (same v i below.1 lt))
+      (λ j le ne. cross-same (s u) (s' u) (s v) (s' v) (fresh_of R (pairs (suc N)) r) i j (same u i below.0 lt) (same u j below.0 (omega arith))
+      (same v i below.1 lt) (same v j below.1 (omega arith)))
+  share-same (suc N) n (Ref u) s s' r below same i lt =
+      let term : ℕ → X = fresh_between (fresh_of R (pairs (suc N)) r) i in
+      row_sum-same R (s u i) (s' u i) term term i N (same u i below lt) (λ j le ne. refl)
+
+  -- so do the shares of all later values
+  pub run-same : (N : ℕ) (gs : List Gate) (n : ℕ) (t t' : Trace X) (r : List X) → AreGates n gs → SameShares N n (shares_of t) (shares_of t') →
+      SameShares N (n + length gs) (shares_of (run R N gs n t r)) (shares_of (run R N gs n t' r))
+  run-same N [] n t t' r are same u i lu li = same u i (omega arith) li
+  run-same N (g ∷ gs) n t t' r are same u i lu li =
+      run-same N gs (suc n) _ _ (drop (gate_draws N g) r) are.1
+      (λ v j lv lj. put-same n v (Share j) (gate_wire R N g (shares_of t) (take (gate_draws N g) r)) (gate_wire R N g (shares_of t') (take (gate_draws N g) r)) t t'
+      (λ e. share-same N n g (shares_of t) (shares_of t') (take (gate_draws N g) r) are.0 same j lj)
+      (λ ne. same v j (omega arith) lj))
+      u i (omega arith) li
+
+  -- a run reads as many fresh bits as it draws
+  pub run-take : (N : ℕ) (gs : List Gate) (n : ℕ) (t : Trace X) (r : List X) →
+      run R N gs n t (take (sum_by (gate_draws N) gs) r) ≡ run R N gs n t r
+  run-take N [] n t r = refl
+  run-take N (g ∷ gs) n t r =
+      let d = gate_draws N g in
+      let all = sum_by (gate_draws N) gs in
+      let first : take d (take (d + all) r) ≡ take d r = take-take d (d + all) r (omega arith) in
+      let rest : drop d (take (d + all) r) ≡ take all (drop d r) = drop-take d all r in
+      ap (λ (m : ℕ). run R N (g ∷ gs) n t (take m r)) (sum_by-cons (gate_draws N) g gs)
+      ∙ ap₂ (λ (x y : List X). run R N gs (suc n) (put n (gate_wire R N g (shares_of t) x) t) y) first rest
+      ∙ run-take N gs (suc n) _ (drop d r)
+
+  -- the shares of a list of values, one of which is new
+  set-same : (N n : ℕ) (g : Gate) (values : List (List X)) (out r : List X) → n < length values → out ≡ gate_out R N g (all_listed R values) r →
+      SameShares N (suc n) (all_listed R (set values n out)) (shares_of (put n (gate_wire R N g (all_listed R values) r) (start R (all_listed R values))))
+  set-same N n g values out r room is u i lu li = go (cases_order u n)
+    where
+      W : Wire → X
+      W = gate_wire R N g (all_listed R values) r
+
+      go : (u ≡ n) ⊎ ((u < n) ⊎ (n < u)) → all_listed R (set values n out) u i ≡ put n W (start R (all_listed R values)) u (Share i)
+      go (inl e) =
+          ap (λ (v : List X). listed R v i) (get_or-set_at values n u out [] e room)
+          ∙ ap (λ (v : List X). listed R v i) (is ∙ map-each W Share N)
+          ∙ get_or-each (λ j. W (Share j)) N i R.nought li
+          ∙ rw (eq-eqb u n e) refl
+      go (inr (inl l)) =
+          ap (λ (v : List X). listed R v i) (get_or-set_other values n u out [] (λ e. omega arith))
+          ∙ sym (put-other n u (Share i) W (start R (all_listed R values)) (λ e. omega arith))
+      go (inr (inr g)) = absurd (omega arith)
+
+  -- where the run from a frame gives the shares T, the run from the frame with one more value gives them too
+  pub next_value : (N total n : ℕ) (g : Gate) (gs : List Gate) (values : List (List X)) (out r r' : List X) (T : ℕ → Shares X) →
+      AreGates n (g ∷ gs) → n < length values → out ≡ gate_out R N g (all_listed R values) (take (gate_draws N g) r) →
+      r' ≡ drop (gate_draws N g) r → total ≡ n + length (g ∷ gs) →
+      SameShares N total (shares_of (run R N (g ∷ gs) n (start R (all_listed R values)) r)) T →
+      SameShares N total (shares_of (run R N gs (suc n) (start R (all_listed R (set values n out))) r')) T
+  next_value N total n g gs values out r r' T are room is rest all same u i lu li =
+      ap (λ (q : List X). run R N gs (suc n) (start R (all_listed R (set values n out))) q u (Share i)) rest
+      ∙ run-same N gs (suc n) _ _ (drop (gate_draws N g) r) are.1 (set-same N n g values out (take (gate_draws N g) r) room is) u i (omega arith) li
+      ∙ same u i lu li

@@ -1,0 +1,15 @@
+//! The evaluator: a circuit on shares, for up to 64 lanes at once, and what watches it.
+#![tactic(auto)]
+
+mod evaluation;
+mod frames;
+mod gates;
+mod watching;
+mod words;
+
+pub use evaluation::eval;
+pub use frames::Frame;
+pub use watching::{NoWatch, Watch};
+
+#[cfg(test)]
+mod tests;

@@ -1,0 +1,84 @@
+ghost use Rattle.std.specs.Prelude.{◌≡◌, ◌<◌, ◌≤◌};
+
+use super::{Frame, NoWatch, Watch, eval};
+use mask_check::admit;
+use mask_circuit::{Builder, Circuit, CircuitError, Steps};
+use mask_io::MemEntropy;
+use mask_shares::Shares;
+use mask_tape::Tape;
+use std::alloc::Global;
+use std::marker::Brand;
+use std::sync::ledger::{Blank, Ledger};
+use std::test::Fail;
+
+// The product of an input and the refreshed sum of both.
+fn example(alloc: Global) -> Result<Circuit, CircuitError> {
+    let mut builder = Builder::new(alloc, 2)?;
+    if builder.values() == 2 {
+        let sum = builder.xor(0, 1)?;
+        let fresh = builder.refresh(sum)?;
+        let product = builder.and(0, fresh)?;
+        builder.out(product)?;
+    }
+    Ok(builder.finish())
+}
+
+// The shares of its output.
+fn output<const N: usize, L: Ledger>(
+    alloc: Global,
+    blank: Blank,
+    x: Shares<N>,
+    y: Shares<N>,
+    tape: Vec<u8>,
+    lanes: u32,
+) -> Result<Shares<N>, Fail>
+    requires name { blank.name ≡ L.name }
+    requires parts { blank.parts ≡ L.parts }
+    requires some_parts { 0 < L.parts }
+    requires some { 2 ≤ N }
+    requires few { N ≤ 8 }
+    requires some_lanes { 1 ≤ lanes }
+    requires few_lanes { lanes ≤ 64 }
+{
+    let order = N as u32 - 1;
+    let mut steps = Steps::<L>::new(blank);
+    let admitted = admit(alloc, example(alloc)?, &mut steps)?;
+    let mut frame = Frame::<N>::new(alloc, &admitted)?;
+    let circuit = admitted.circuit();
+    let draws = circuit.draws(order);
+    if circuit.inputs() != 2 || circuit.outputs().len() != 1 || draws > 1000 {
+        return Ok(x);
+    }
+    frame.set(0, x);
+    frame.set(1, y);
+    let mut watch = NoWatch;
+    watch.room(circuit, order, lanes)?;
+    let mut entropy = MemEntropy::new(tape, Vec::new(alloc));
+    let mut coins = Tape::new().reserve(alloc, &mut entropy, lanes, draws)?;
+    eval(
+        &admitted, &mut frame, lanes, &mut coins, &mut watch, &mut steps,
+    );
+    coins.finish();
+    Ok(frame.outputs()[0])
+}
+
+// The sum (1, 0) gets the coin 1, and the product the coin 0.
+#[test]
+fn two_shares_in_one_lane(rt: HostRuntime) -> Result<(), Fail> {
+    let tape = vec![in rt.alloc(); 0b01]?;
+    let x = Shares::from_parts([1, 0]);
+    let y = Shares::from_parts([0, 0]);
+    let shares = output::<2, Brand>(rt.alloc(), Blank::new(1), x, y, tape, 1)?;
+    assert_eq!(rt; (shares.share(0), shares.share(1)), (0, 1));
+    Ok(())
+}
+
+#[test]
+fn eight_shares_in_four_lanes(rt: HostRuntime) -> Result<(), Fail> {
+    let tape = vec![in rt.alloc(); 0xa5; 28]?;
+    let x = Shares::public(0b0011);
+    let y = Shares::from_parts([0b0101, 0b1010, 0b1010, 0, 0, 0, 0, 0]);
+    let shares = output::<8, Brand>(rt.alloc(), Blank::new(1), x, y, tape, 4)?;
+    assert_eq!(rt; shares.unmask(), 0b0010);
+    Ok(())
+}
