@@ -1,5 +1,5 @@
 -- A run on words is, in each lane, the run on the lane's bits; and what a frame holds after a run are its outputs.
-use Rattle.std.proofs.Common.{◌≡◌, ℕ, zero, suc, ◌<◌, ◌≤◌, Bool, true, false, cond, ◌==◌, List, [], ◌∷◌, length, map, take, drop, get_or, fold, sum_by, All, refl, ap, ap₂, sym, subst, ◌∙◌, arith}
+use Rattle.std.proofs.Common.{◌≡◌, ℕ, suc, ◌<◌, ◌≤◌, Bool, true, false, cond, ◌==◌, List, [], ◌∷◌, length, map, take, drop, get_or, fold, sum_by, All, refl, ap, ap₂, sym, subst, ◌∙◌, arith}
 use Rattle.std.proofs.Math.Path.{fun_ext}
 use Rattle.std.proofs.lemmas.Simd.{map-map}
 use Rattle.std.proofs.lemmas.List.{take-map, drop-map, get_or-map, get_or-take, ext_get_or}
@@ -10,9 +10,9 @@ use Rattle.mask_circuit.specs.declared.gates.Gate.TheVariants.{Zero, One, Xor, N
 use Rattle.mask_circuit.specs.Netlist.{Netlist, IsCircuit, value_count}
 use Rattle.mask_circuit.specs.Value.{xor, plain}
 use Rattle.mask_circuit.specs.Ring.{Ring, bits, words}
-use Rattle.mask_circuit.specs.Wires.{Wire, Share, Product, Fresh, Left, Right, Partial, Shares, each, share_wire, gate_draws, gate_wire}
+use Rattle.mask_circuit.specs.Wires.{Wire, Share, Product, Fresh, Left, Right, Partial, Shares, each, gate_draws, gate_wire}
 use Rattle.mask_circuit.specs.Expansion.{Trace, shares_of, put, start, run, expand, draws, outs}
-use Rattle.mask_laws.specs.Sharing.{xor_all, unshared, unshared_inputs}
+use Rattle.mask_laws.specs.Sharing.{xor_all, unshared}
 use Rattle.mask_laws.proofs.Bits.{xor-false, xor_assoc}
 use Rattle.mask_laws.proofs.Unmasking.{outputs_unmask}
 use Rattle.mask_shares.specs.Sharing.{listed, all_listed, unmasked}

@@ -1,5 +1,5 @@
 -- A run gate by gate: it depends on the shares of earlier values alone, and a frame that holds these goes on with it.
-use Rattle.std.proofs.Common.{◌≡◌, ℕ, zero, suc, pred, ◌+◌, ◌<◌, ◌≤◌, ◌≢◌, ◌⊎◌, inl, inr, cond, ◌==◌, nat_lt, List, [], ◌∷◌, length, map, take, drop, set, get_or, All, sum_by, refl, ap, ap₂, sym, ◌∙◌, arith}
+use Rattle.std.proofs.Common.{◌≡◌, ℕ, zero, suc, ◌+◌, ◌<◌, ◌≤◌, ◌⊎◌, inl, inr, cond, ◌==◌, nat_lt, List, [], ◌∷◌, length, take, drop, set, sum_by, refl, ap, ap₂, sym, ◌∙◌, arith}
 use Rattle.std.proofs.lemmas.Bool.{eq-eqb, cases_order}
 use Rattle.std.proofs.lemmas.List.{take-take, drop-take, get_or-set_other}
 use Rattle.std.proofs.lemmas.List.Sums.{sum_by-cons}
@@ -8,7 +8,7 @@ use Rattle.mask_circuit.specs.declared.gates.Gate.{Gate}
 use Rattle.mask_circuit.specs.declared.gates.Gate.TheVariants.{Zero, One, Xor, Not, And, Ref}
 use Rattle.mask_circuit.specs.Netlist.{OperandsBelow, AreGates}
 use Rattle.mask_circuit.specs.Ring.{Ring}
-use Rattle.mask_circuit.specs.Wires.{Wire, Share, Shares, each, pairs, fresh_of, cross, fresh_between, gate_draws, gate_wire, gate_out}
+use Rattle.mask_circuit.specs.Wires.{Wire, Share, Shares, pairs, fresh_of, cross, fresh_between, gate_draws, gate_wire, gate_out}
 use Rattle.mask_circuit.specs.Expansion.{Trace, shares_of, put, start, run}
 use Rattle.mask_laws.proofs.Traces.{put-same, put-other}
 use Rattle.mask_shares.specs.Sharing.{listed, all_listed}

@@ -64,7 +64,8 @@ impl<const N: usize> Frame<N> {
     pub fn set(&mut self, input: u32, value: Shares<N>)
         requires few { N ≤ 8 }
         requires input { input < self.old.inputs }
-        ensures { self.new ≡ record self.old { values = slice_set self.old.values input value.entry } }
+        ensures value { self.new ≡ record self.old { values = slice_set self.old.values input value.entry } }
+        ensures fits { (c : Netlist) → Fits self.old c → Fits self.new c }
     {
         self.values[input as usize] = value;
     }

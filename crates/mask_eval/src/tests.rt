@@ -63,22 +63,39 @@ fn output<const N: usize, L: Ledger>(
 }
 
 // The sum (1, 0) gets the coin 1, and the product the coin 0.
-#[test]
-fn two_shares_in_one_lane(rt: HostRuntime) -> Result<(), Fail> {
-    let tape = vec![in rt.alloc(); 0b01]?;
+fn two_shares<L: Ledger>(alloc: Global, blank: Blank) -> Result<(u64, u64), Fail>
+    requires name { blank.name ≡ L.name }
+    requires parts { blank.parts ≡ L.parts }
+    requires some_parts { 0 < L.parts }
+{
+    let tape = vec![in alloc; 0b01]?;
     let x = Shares::from_parts([1, 0]);
     let y = Shares::from_parts([0, 0]);
-    let shares = output::<2, Brand>(rt.alloc(), Blank::new(1), x, y, tape, 1)?;
-    assert_eq!(rt; (shares.share(0), shares.share(1)), (0, 1));
-    Ok(())
+    let shares = output::<2, L>(alloc, blank, x, y, tape, 1)?;
+    Ok((shares.share(0), shares.share(1)))
+}
+
+// The shared bits are 0011 and 0101, one in each lane.
+fn eight_shares<L: Ledger>(alloc: Global, blank: Blank) -> Result<u64, Fail>
+    requires name { blank.name ≡ L.name }
+    requires parts { blank.parts ≡ L.parts }
+    requires some_parts { 0 < L.parts }
+{
+    let tape = vec![in alloc; 0xa5; 28]?;
+    let x = Shares::public(0b0011);
+    let y = Shares::from_parts([0b0101, 0b1010, 0b1010, 0, 0, 0, 0, 0]);
+    let shares = output::<8, L>(alloc, blank, x, y, tape, 4)?;
+    Ok(shares.unmask())
+}
+
+fn outputs(alloc: Global) -> Result<(u64, u64, u64), Fail> {
+    let (first, second) = two_shares::<Brand>(alloc, Blank::new(1))?;
+    let product = eight_shares::<Brand>(alloc, Blank::new(1))?;
+    Ok((first, second, product))
 }
 
 #[test]
-fn eight_shares_in_four_lanes(rt: HostRuntime) -> Result<(), Fail> {
-    let tape = vec![in rt.alloc(); 0xa5; 28]?;
-    let x = Shares::public(0b0011);
-    let y = Shares::from_parts([0b0101, 0b1010, 0b1010, 0, 0, 0, 0, 0]);
-    let shares = output::<8, Brand>(rt.alloc(), Blank::new(1), x, y, tape, 4)?;
-    assert_eq!(rt; shares.unmask(), 0b0010);
+fn evaluates_the_example(rt: HostRuntime) -> Result<(), Fail> {
+    assert_eq!(rt; outputs(rt.alloc())?, (0, 1, 0b0010));
     Ok(())
 }

@@ -1,4 +1,4 @@
-use Rattle.std.proofs.Common.{◌≡◌, suc, ◌+◌, length, take, drop, sum_by}
+use Rattle.std.proofs.Common.{◌≡◌, ◌+◌, length, take, drop, sum_by}
 use Rattle.mask_circuit.specs.Ring.{words}
 use Rattle.mask_circuit.specs.Wires.{gate_draws}
 use Rattle.mask_circuit.specs.Netlist.{AreGates}
