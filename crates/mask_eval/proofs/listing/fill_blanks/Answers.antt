@@ -1,4 +1,4 @@
-use Rattle.std.proofs.Common.{◌≡◌, ◌+◌, ◌<◌, length, get_or, arith}
+use Rattle.std.proofs.Common.{◌≡◌, ◌+◌, length, get_or, arith}
 use Rattle.mask_eval.proofs.Lists.{at_blank}
 use Rattle.mask_eval.proofs.listing.fill_blanks.Goals as goal
 
