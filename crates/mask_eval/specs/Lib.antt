@@ -1,2 +1,3 @@
 pub mod Frames
+pub mod Listing
 pub mod Watching

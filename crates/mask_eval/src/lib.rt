@@ -4,11 +4,13 @@
 mod evaluation;
 mod frames;
 mod gates;
+mod listing;
 mod watching;
 mod words;
 
 pub use evaluation::eval;
 pub use frames::Frame;
+pub use listing::{ListWatch, Seen};
 pub use watching::{NoWatch, Watch};
 
 #[cfg(test)]

@@ -1,6 +1,6 @@
 ghost use Rattle.std.specs.Prelude.{◌≡◌, ◌<◌, ◌≤◌};
 
-use super::{Frame, NoWatch, Watch, eval};
+use super::{Frame, ListWatch, NoWatch, Watch, eval};
 use mask_check::admit;
 use mask_circuit::{Builder, Circuit, CircuitError, Steps};
 use mask_io::MemEntropy;
@@ -97,5 +97,30 @@ fn outputs(alloc: Global) -> Result<(u64, u64, u64), Fail> {
 #[test]
 fn evaluates_the_example(rt: HostRuntime) -> Result<(), Fail> {
     assert_eq!(rt; outputs(rt.alloc())?, (0, 1, 0b0010));
+    Ok(())
+}
+
+// Told of the example on two shares, in two lanes.
+fn listed(alloc: Global) -> Result<ListWatch, Fail> {
+    let circuit = example(alloc)?;
+    let mut watch = ListWatch::new(alloc);
+    if circuit.inputs() == 2 && circuit.draws(1) == 2 && circuit.outputs().len() == 1 {
+        watch.room(&circuit, 1, 2)?;
+        watch.report(&circuit, 1, &[1, 0, 2, 0], &[3, 1], &[1, 2], 2);
+    }
+    Ok(watch)
+}
+
+#[test]
+fn keeps_a_record_for_each_lane(rt: HostRuntime) -> Result<(), Fail> {
+    let watch = listed(rt.alloc())?;
+    assert_eq!(rt; watch.len(), 2);
+    if watch.len() == 2 {
+        let seen = watch.get(1);
+        assert_eq!(rt; (seen.order, seen.inputs.len(), seen.tape.len()), (1, 4, 2));
+        if seen.outputs.len() == 2 {
+            assert_eq!(rt; (seen.outputs.get(0), seen.outputs.get(1)), (false, true));
+        }
+    }
     Ok(())
 }

@@ -1,0 +1,82 @@
+-- Records that are filled lane by lane.
+use Rattle.std.proofs.Common.{◌≡◌, ℕ, zero, suc, ◌+◌, ◌<◌, List, [], ◌∷◌, ◌++◌, length, map, drop, get_or, All, refl, ap, ap₂, sym, subst, ◌∙◌, arith, length-drop, append_assoc}
+use Rattle.std.proofs.lemmas.List.{get_or-drop, ext_get_or, length-map, length_push, map-append}
+use Rattle.std.proofs.lemmas.List.Elements.{All-push}
+use Rattle.std.proofs.Math.ListN.{get_or-map}
+use Rattle.mask_bits.specs.Lanes.{lane}
+use Rattle.mask_circuit.specs.Netlist.{Netlist}
+use Rattle.mask_shares.proofs.Lists.{length-each, get_or-each}
+use Rattle.mask_eval.specs.Watching.{Told, reports}
+use Rattle.mask_eval.specs.Listing.{as_told, IsBlank, AreBlank, Added, filled}
+use Rattle.mask_eval.specs.declared.listing.Seen.{Seen}
+
+-- what holds of all records behind a place holds of the first that is left
+pub at_blank : {X : Type 0} (P : X → Type 0) (items old : List X) (from l : ℕ) (d : X) → All P (drop from old) →
+    drop (from + l) items ≡ drop (from + l) old → from + l < length old → P (get_or items (from + l) d)
+at_blank {X} P items old from l d all back lt =
+    let end : from + l + 0 ≡ from + l = omega arith in
+    subst P
+    (get_or-drop from old l d
+    ∙ ap (λ (n : ℕ). get_or old n d) (sym end)
+    ∙ sym (get_or-drop (from + l) old 0 d)
+    ∙ ap (λ (xs : List X). get_or xs 0 d) (sym back)
+    ∙ get_or-drop (from + l) items 0 d
+    ∙ ap (λ (n : ℕ). get_or items n d) end)
+    (all l d (omega (arith, length-drop from old)))
+
+module _ (inputs coins outputs : List ℕ) where
+  -- a record with the bits of lane l
+  abbrev of_lane : Netlist → ℕ → ℕ → Told
+  of_lane c order l = record { circuit = c; order = order; inputs = lane l inputs; tape = lane l coins; outputs = lane l outputs }
+
+  filled-at : (l : ℕ) (ss : List Seen) (k : ℕ) (d : Told) → k < length ss →
+      get_or (map as_told (filled inputs coins outputs l ss)) k d ≡ of_lane (get_or (map as_told ss) k d).circuit (get_or (map as_told ss) k d).order (l + k)
+  filled-at l [] k d lt = absurd (omega arith)
+  filled-at l (s ∷ ss) zero d lt = let e : l ≡ l + 0 = omega arith in ap (of_lane s.circuit s.order) e
+  filled-at l (s ∷ ss) (suc k) d lt =
+      let e : suc l + k ≡ l + suc k = omega arith in
+      filled-at (suc l) ss k d (omega arith) ∙ ap (of_lane (get_or (map as_told ss) k d).circuit (get_or (map as_told ss) k d).order) e
+
+  length-filled : (l : ℕ) (ss : List Seen) → length (filled inputs coins outputs l ss) ≡ length ss
+  length-filled l [] = refl
+  length-filled l (s ∷ ss) = ap suc (length-filled (suc l) ss)
+
+  -- filled blanks are what is reported
+  pub reported : (c : Netlist) (order lanes : ℕ) (ss : List Seen) → AreBlank c order lanes (map as_told ss) →
+      map as_told (filled inputs coins outputs 0 ss) ≡ reports c order inputs coins outputs lanes
+  reported c order lanes ss blank =
+      let d = of_lane c order 0 in
+      let count : length ss ≡ lanes = sym (length-map ss as_told) ∙ blank.count in
+      let all : length (map as_told (filled inputs coins outputs 0 ss)) ≡ length ss = length-map _ as_told ∙ length-filled 0 ss in
+      ext_get_or d _ _ (all ∙ count ∙ sym (length-each (of_lane c order) lanes))
+      (λ k lt.
+      let below : k < length ss = omega arith in
+      let within : k < length (map as_told ss) = omega (arith, length-map ss as_told) in
+      let low : k < lanes = omega arith in
+      let e : 0 + k ≡ k = omega arith in
+      let is = blank.each_is k d within in
+      filled-at 0 ss k d below
+      ∙ ap₂ (λ (n : Netlist) (o : ℕ). of_lane n o (0 + k)) is.circuit is.order_is
+      ∙ ap (of_lane c order) e
+      ∙ sym (get_or-each (of_lane c order) lanes k d low))
+
+-- one blank of all
+pub blank_at : (c : Netlist) (order lanes : ℕ) (ss : List Seen) (k : ℕ) (d : Seen) → AreBlank c order lanes (map as_told ss) → k < length ss →
+    IsBlank c order (as_told (get_or ss k d))
+blank_at c order lanes ss k d blank lt =
+    subst (IsBlank c order) (get_or-map as_told ss k d) (blank.each_is k (as_told d) (omega (arith, length-map ss as_told)))
+
+-- one blank more
+pub added_more : (c : Netlist) (order n : ℕ) (old items new : List Seen) (s : Seen) → Added c order n old items → IsBlank c order (as_told s) →
+    new ≡ items ++ s ∷ [] → Added c order (n + 1) old new
+added_more c order n old items new s added is e =
+    let all : map as_told (added.more ++ s ∷ []) ≡ map as_told added.more ++ as_told s ∷ [] = map-append as_told added.more (s ∷ []) in
+    record {
+      more = added.more ++ s ∷ [];
+      is = e ∙ ap (λ (ss : List Seen). ss ++ s ∷ []) added.is ∙ append_assoc old added.more (s ∷ []);
+      blank = record {
+        count = ap length all ∙ length_push (map as_told added.more) (as_told s) ∙ ap (λ (m : ℕ). m + 1) added.blank.count;
+        each_is = subst (λ (ts : List Told). All (IsBlank c order) ts) (sym all)
+            (All-push (IsBlank c order) (map as_told added.more) (as_told s) added.blank.each_is is);
+      };
+    }
