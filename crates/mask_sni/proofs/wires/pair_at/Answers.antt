@@ -1,0 +1,15 @@
+use Rattle.std.proofs.Common.{arith}
+use Rattle.mask_sni.proofs.Numbers.{row_left, pairs_before-more}
+use Rattle.mask_sni.proofs.wires.pair_at.Goals as goal
+
+-- another row has the pair, so there is one
+pub loop-i-smaller : goal.loop-i-smaller
+loop-i-smaller c =
+    let more = row_left c.args.n c.loop-i.i c.args.number c.loop-i.rest c.requires.known c.loop-i.invariant.row c.loop-i.invariant.passed (omega arith) in
+    omega arith
+
+pub loop-i-preserved : goal.loop-i-preserved
+loop-i-preserved c =
+    let more = row_left c.args.n c.loop-i.i c.args.number c.loop-i.rest c.requires.known c.loop-i.invariant.row c.loop-i.invariant.passed (omega arith) in
+    let row = pairs_before-more c.args.n c.loop-i.i in
+    record { row = omega arith; passed = omega arith }

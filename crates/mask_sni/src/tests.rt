@@ -1,0 +1,26 @@
+use super::{Places, Probes, and_needs, ref_needs};
+use std::test::Fail;
+
+// A product of three shares: wire 18 is a partial sum of row 0, and wire 10 is v_01.
+#[test]
+fn needs_of_a_product(rt: HostRuntime) -> Result<(), Fail> {
+    let mut probes = Probes::new();
+    probes.push(18);
+    probes.push(10);
+    let (left, right) = and_needs::<3>(&probes, &Places::new());
+    assert_eq!(rt; left.as_slice(), [0].as_slice());
+    assert_eq!(rt; right.as_slice(), [0, 1].as_slice());
+    Ok(())
+}
+
+// A refresh of three shares: wire 1 is share 0 after its first update.
+#[test]
+fn needs_of_a_refresh(rt: HostRuntime) -> Result<(), Fail> {
+    let mut probes = Probes::new();
+    probes.push(1);
+    let mut outputs = Places::new();
+    outputs.push(2);
+    let needed = ref_needs::<3>(&probes, &outputs);
+    assert_eq!(rt; needed.as_slice(), [0].as_slice());
+    Ok(())
+}
