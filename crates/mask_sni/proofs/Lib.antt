@@ -1,3 +1,4 @@
 pub mod Members
 pub mod Numbers
 pub mod Probed
+pub mod Masks

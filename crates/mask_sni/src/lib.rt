@@ -7,9 +7,11 @@
 use arrayvec::ArrayVec;
 
 mod needs;
+mod shifts;
 mod wires;
 
 pub use needs::{and_needs, ref_needs};
+pub use shifts::ref_shift;
 
 /// Share numbers, rising and without repeats.
 pub type Places = ArrayVec<u8, 8>;
