@@ -2,3 +2,4 @@ pub mod Members
 pub mod Numbers
 pub mod Probed
 pub mod Masks
+pub mod Sums

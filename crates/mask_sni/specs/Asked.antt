@@ -4,6 +4,7 @@ use Rattle.std.specs.List.{filter, list_any}
 use Rattle.std.specs.Int.{bit_at}
 use Rattle.mask_circuit.specs.Wires.{Wire, Share, Product, Fresh, Left, Right, Partial, Shares, each}
 use Rattle.mask_circuit.specs.Need.{ShareSet, is_share}
+use Rattle.mask_circuit.specs.Shift.{Sides}
 use Rattle.mask_sni.specs.declared.wires.LocalWire.{LocalWire}
 use Rattle.mask_sni.specs.declared.wires.LocalWire.TheVariants.{OutputShare, Term, FreshBit, LeftSum, RightSum, RowSum}
 
@@ -43,3 +44,11 @@ bit_shares a i = bit_at a i == 1
 abbrev pub number_of : List Bool → ℕ
 number_of [] = 0
 number_of (b ∷ bs) = cond b 1 0 + 2 * number_of bs
+
+-- the shares of two operands, of which the first is value 0
+abbrev pub operand_shares : ℕ → ℕ → ℕ → Shares Bool
+operand_shares a b u = bit_shares (cond (u == 0) a b)
+
+-- one operand on two sides
+abbrev pub operand_sides : ℕ → ℕ → Sides
+operand_sides a a2 = record { one = bit_shares a; two = bit_shares a2 }

@@ -36,8 +36,8 @@ pub fn ref_shift<const N: usize>(probes: &Probes, outputs: &Places, a: u8, a2: u
     mask
 }
 
-// The bit of pair p alone, where it is flipped.
-fn pair_bit(flipped: bool, p: u8) -> u32
+/// The bit of pair p alone, where it is flipped.
+pub(crate) fn pair_bit(flipped: bool, p: u8) -> u32
     requires { p < 28 }
     ensures bit { result ≡ cond flipped (2 ^ p) 0 }
     ensures small { result ≤ 2 ^ p }
@@ -75,16 +75,16 @@ fn is_turned(n: u8, probes: &Probes, outputs: &Places, sides: (u8, u8), i: u8) -
     is_place(outputs, i) && !is_updated(n, probes, i) && changed
 }
 
-// Share i of an operand.
-fn share_of(a: u8, i: u8) -> bool
+/// Share i of an operand.
+pub(crate) fn share_of(a: u8, i: u8) -> bool
     requires { i < 8 }
     ensures { result ≡ bit_shares a i }
 {
     (a >> i) & 1 == 1
 }
 
-// Whether a list of places names share i.
-fn is_place(places: &Places, i: u8) -> bool
+/// Whether a list of places names share i.
+pub(crate) fn is_place(places: &Places, i: u8) -> bool
     ensures { result ≡ in_places places.now.items i }
 {
     let shares = places.as_slice();
@@ -128,8 +128,8 @@ fn partner(n: u8, probes: &Probes, outputs: &Places, i: u8) -> Option<u8>
     found
 }
 
-// What was found, or else share k where it is free.
-fn or_share(found: Option<u8>, free: bool, k: u8) -> Option<u8>
+/// What was found, or else share k where it is free.
+pub(crate) fn or_share(found: Option<u8>, free: bool, k: u8) -> Option<u8>
     ensures kept { (share : ℕ) → found ≡ Some share → result ≡ Some share }
     ensures next { found ≡ None → result ≡ cond free (Some k) None }
 {

@@ -1,7 +1,7 @@
 //! The wires of product and refresh by local number.
 
 ghost use Rattle.std.specs.Prelude.{◌≡◌, ◌+◌, ◌-◌, ◌*◌, ◌/◌, ◌<◌, ◌≤◌, length, slice_index_or, cond, nat_lt};
-ghost use Rattle.mask_circuit.specs.Wires.{Share, Fresh, other, row_wire, product_names, refresh_names};
+ghost use Rattle.mask_circuit.specs.Wires.{Share, Fresh, Left, other, row_wire, product_names, refresh_names};
 ghost use Rattle.mask_circuit.specs.Need.{is_of_row, demands_left, is_update_of};
 ghost use Rattle.mask_circuit.specs.Probing.{same_wire};
 ghost use Rattle.mask_circuit.specs.Shift.{wire_between};
@@ -56,6 +56,17 @@ impl LocalWire {
         match self {
             LocalWire::FreshBit(lower, higher) if i < k => i == lower && k == higher,
             LocalWire::FreshBit(lower, higher) => k == lower && i == higher,
+            _ => false,
+        }
+    }
+
+    /// Whether this wire of a product is the sum v of the pair of i and k, in either order.
+    pub(crate) fn is_left_between(self, i: u8, k: u8) -> bool
+        ensures { result ≡ same_wire (wire_between Left i k) (named self) }
+    {
+        match self {
+            LocalWire::LeftSum(lower, higher) if i < k => i == lower && k == higher,
+            LocalWire::LeftSum(lower, higher) => k == lower && i == higher,
             _ => false,
         }
     }
