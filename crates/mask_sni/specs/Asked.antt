@@ -1,8 +1,10 @@
 -- What is asked about a product or a refresh, and how the code's wires are those of the definitions.
-use Rattle.std.specs.Prelude.{◌≡◌, ℕ, ◌+◌, ◌<◌, false, List, length, map, All, slice_index_or}
-use Rattle.std.specs.List.{filter}
-use Rattle.mask_circuit.specs.Wires.{Wire, Share, Product, Fresh, Left, Right, Partial, each}
+use Rattle.std.specs.Prelude.{◌≡◌, ℕ, ◌+◌, ◌*◌, ◌<◌, ◌==◌, Bool, false, cond, List, [], ◌∷◌, length, map, All, slice_index_or}
+use Rattle.std.specs.List.{filter, list_any}
+use Rattle.std.specs.Int.{bit_at}
+use Rattle.mask_circuit.specs.Wires.{Wire, Share, Product, Fresh, Left, Right, Partial, Shares, each}
 use Rattle.mask_circuit.specs.Need.{ShareSet, is_share}
+use Rattle.mask_circuit.specs.Shift.{Sides}
 use Rattle.mask_sni.specs.declared.wires.LocalWire.{LocalWire}
 use Rattle.mask_sni.specs.declared.wires.LocalWire.TheVariants.{OutputShare, Term, FreshBit, LeftSum, RightSum, RowSum}
 
@@ -29,3 +31,24 @@ pub record AreAsked (n : ℕ) (names : List Wire) (P O : List ℕ) : Type 0 wher
   pub inner : All (λ w. is_share w ≡ false) (wires_at names P)
   pub shares : All (λ i. i < n) O
   pub few : length P + length O < n
+
+-- the shares that a list of places names
+abbrev pub in_places : List ℕ → ShareSet
+in_places O i = list_any (λ k. k == i) O
+
+-- the shares that a number holds: share i is bit i
+abbrev pub bit_shares : ℕ → Shares Bool
+bit_shares a i = bit_at a i == 1
+
+-- the number with these bits, the lowest first
+abbrev pub number_of : List Bool → ℕ
+number_of [] = 0
+number_of (b ∷ bs) = cond b 1 0 + 2 * number_of bs
+
+-- the shares of two operands, of which the first is value 0
+abbrev pub operand_shares : ℕ → ℕ → ℕ → Shares Bool
+operand_shares a b u = bit_shares (cond (u == 0) a b)
+
+-- one operand on two sides
+abbrev pub operand_sides : ℕ → ℕ → Sides
+operand_sides a a2 = record { one = bit_shares a; two = bit_shares a2 }

@@ -7,9 +7,13 @@
 use arrayvec::ArrayVec;
 
 mod needs;
+mod products;
+mod shifts;
 mod wires;
 
 pub use needs::{and_needs, ref_needs};
+pub use products::and_shift;
+pub use shifts::ref_shift;
 
 /// Share numbers, rising and without repeats.
 pub type Places = ArrayVec<u8, 8>;

@@ -98,8 +98,8 @@ fn is_right_needed(n: u8, probes: &Probes, i: u8) -> bool
     touches_row(n, probes, i) || has_right_demand(n, probes, i)
 }
 
-// Whether a probe touches row i of a product.
-fn touches_row(n: u8, probes: &Probes, i: u8) -> bool
+/// Whether a probe touches row i of a product.
+pub(crate) fn touches_row(n: u8, probes: &Probes, i: u8) -> bool
     requires some { 2 ≤ n }
     requires most { n ≤ 8 }
     requires known { All (λ p. p < length (product_names n)) probes.now.items }
@@ -163,8 +163,8 @@ fn demands_right(n: u8, probes: &Probes, wire: LocalWire, i: u8) -> bool
     }
 }
 
-// Whether a probe on a refresh is an update of share i.
-fn is_updated(n: u8, probes: &Probes, i: u8) -> bool
+/// Whether a probe on a refresh is an update of share i.
+pub(crate) fn is_updated(n: u8, probes: &Probes, i: u8) -> bool
     requires some { 2 ≤ n }
     requires most { n ≤ 8 }
     requires known { All (λ p. p < length (refresh_names n)) probes.now.items }

@@ -1,7 +1,7 @@
-use super::{Places, Probes, and_needs, ref_needs};
+use super::{Places, Probes, and_needs, and_shift, ref_needs, ref_shift};
 use std::test::Fail;
 
-// A product of three shares: wire 18 is a partial sum of row 0, and wire 10 is v_01.
+// A product of three shares: wire 18 is the first partial sum of share 0, and wire 10 is v_01.
 #[test]
 fn needs_of_a_product(rt: HostRuntime) -> Result<(), Fail> {
     let mut probes = Probes::new();
@@ -22,5 +22,23 @@ fn needs_of_a_refresh(rt: HostRuntime) -> Result<(), Fail> {
     outputs.push(2);
     let needed = ref_needs::<3>(&probes, &outputs);
     assert_eq!(rt; needed.as_slice(), [0].as_slice());
+    Ok(())
+}
+
+// A refresh of two shares, of which share 0 is named: its one fresh bit is flipped.
+#[test]
+fn mask_of_a_refresh(rt: HostRuntime) -> Result<(), Fail> {
+    let mut outputs = Places::new();
+    outputs.push(0);
+    assert_eq!(rt; ref_shift::<2>(&Probes::new(), &outputs, 0, 3), 1);
+    Ok(())
+}
+
+// A product of two shares, of which share 0 is named: the fresh bit makes up for what its term changes by.
+#[test]
+fn mask_of_a_product(rt: HostRuntime) -> Result<(), Fail> {
+    let mut outputs = Places::new();
+    outputs.push(0);
+    assert_eq!(rt; and_shift::<2>(&Probes::new(), &outputs, 1, 1, 0, 0), 1);
     Ok(())
 }

@@ -1,8 +1,10 @@
 //! The wires of product and refresh by local number.
 
-ghost use Rattle.std.specs.Prelude.{◌≡◌, ◌+◌, ◌-◌, ◌*◌, ◌/◌, ◌<◌, ◌≤◌, length, slice_index_or, cond, nat_lt};
-ghost use Rattle.mask_circuit.specs.Wires.{Share, other, row_wire, product_names, refresh_names};
+ghost use Rattle.std.specs.Prelude.{◌≡◌, ◌+◌, ◌-◌, ◌*◌, ◌/◌, ◌<◌, ◌≤◌, length, slice_index_or};
+ghost use Rattle.mask_circuit.specs.Wires.{Share, Fresh, Left, other, row_wire, product_names, refresh_names};
 ghost use Rattle.mask_circuit.specs.Need.{is_of_row, demands_left, is_update_of};
+ghost use Rattle.mask_circuit.specs.Probing.{same_wire};
+ghost use Rattle.mask_circuit.specs.Shift.{wire_between};
 ghost use Rattle.mask_laws.specs.Names.{IsPair, pair_number, pair_count};
 
 /// A wire of a product or a refresh, by what it carries: a and b are the operands' shares, r the fresh bits.
@@ -47,6 +49,28 @@ impl LocalWire {
         }
     }
 
+    /// Whether this wire is the fresh bit of the pair of i and k, in either order.
+    pub(crate) fn is_fresh_between(self, i: u8, k: u8) -> bool
+        ensures { result ≡ same_wire (wire_between Fresh i k) (named self) }
+    {
+        match self {
+            LocalWire::FreshBit(lower, higher) if i < k => i == lower && k == higher,
+            LocalWire::FreshBit(lower, higher) => k == lower && i == higher,
+            _ => false,
+        }
+    }
+
+    /// Whether this wire of a product is the sum v of the pair of i and k, in either order.
+    pub(crate) fn is_left_between(self, i: u8, k: u8) -> bool
+        ensures { result ≡ same_wire (wire_between Left i k) (named self) }
+    {
+        match self {
+            LocalWire::LeftSum(lower, higher) if i < k => i == lower && k == higher,
+            LocalWire::LeftSum(lower, higher) => k == lower && i == higher,
+            _ => false,
+        }
+    }
+
     /// Whether this wire of a refresh is an update of share i.
     pub(crate) fn is_update_of(self, i: u8) -> bool
         ensures { result ≡ is_update_of i (named self) }
@@ -58,8 +82,8 @@ impl LocalWire {
     }
 }
 
-// The pair of this number among the pairs of n shares: (0, 1), (0, 2), .., (1, 2), ..
-fn pair_at(n: u8, number: u8) -> (u8, u8)
+/// The pair of this number among the pairs of n shares: (0, 1), (0, 2), .., (1, 2), ..
+pub(crate) fn pair_at(n: u8, number: u8) -> (u8, u8)
     requires few { n ≤ 8 }
     requires known { number < pair_count n }
     ensures pair { IsPair n result.0 result.1 }

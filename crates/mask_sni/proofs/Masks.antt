@@ -1,0 +1,70 @@
+-- The bits of a mask one after another, and the least number that passes a test.
+use Rattle.std.proofs.Common.{◌≡◌, ℕ, zero, suc, ◌+◌, ◌*◌, ◌^◌, ◌<◌, ◌≤◌, Bool, true, false, cond, List, [], ◌∷◌, length, map, take, get_or, slice_get, Some, None, refl, sym, ap, ◌∙◌, arith, add-one}
+use Rattle.std.specs.declared.option.Option.{Option}
+use Rattle.std.proofs.Math.Nat.{pow-le-pow_right, pow-succ'}
+use Rattle.std.proofs.lemmas.List.{get_or-map, length-map, take_all}
+use Rattle.std.proofs.lemmas.Option.{get_or_from_slice_get, slice_get_within}
+use Rattle.mask_circuit.specs.Wires.{Pair, pairs}
+use Rattle.mask_circuit.specs.Shift.{least}
+use Rattle.mask_laws.specs.Names.{IsPair, pair_number, pair_count}
+use Rattle.mask_laws.proofs.LocalNumbers.{pairs_in_order}
+use Rattle.mask_sni.specs.Asked.{number_of}
+
+twice : (a m n x y : ℕ) → m ≡ n + x → y ≡ 2 * x → a + 2 * m ≡ a + 2 * n + y
+twice a m n x y e d = omega arith
+
+power-suc : (k : ℕ) → 2 ^ suc k ≡ 2 * 2 ^ k
+power-suc k = pow-succ' 2 k
+
+-- one bit more
+pub number_more : (bs : List Bool) (k : ℕ) → k < length bs → number_of (take (suc k) bs) ≡ number_of (take k bs) + cond (get_or bs k false) (2 ^ k) 0
+number_more [] k lt = absurd (omega arith)
+number_more (true ∷ bs) zero lt = refl
+number_more (false ∷ bs) zero lt = refl
+number_more (b ∷ bs) (suc k) lt = go (get_or bs k false) (number_more bs k (omega arith))
+  where
+    go : (c : Bool) → number_of (take (suc k) bs) ≡ number_of (take k bs) + cond c (2 ^ k) 0 →
+        cond b 1 0 + 2 * number_of (take (suc k) bs) ≡ cond b 1 0 + 2 * number_of (take k bs) + cond c (2 ^ suc k) 0
+    go true e = twice (cond b 1 0) (number_of (take (suc k) bs)) (number_of (take k bs)) (2 ^ k) (2 ^ suc k) e (power-suc k)
+    go false e = twice (cond b 1 0) (number_of (take (suc k) bs)) (number_of (take k bs)) 0 0 e refl
+
+-- the bit of a pair in a mask by pairs
+pair_bit : (f : Pair → Bool) (n i j p : ℕ) → IsPair n i j → pair_number n i j ≡ p → (p < length (pairs n)) × (get_or (map f (pairs n)) p false ≡ f (i, j))
+pair_bit f n i j p is e =
+    let order = pairs_in_order n in
+    let here : slice_get (pairs n) p ≡ Some (i, j) = rw e at (order.pair i j is) in
+    let within : p < length (pairs n) = slice_get_within (pairs n) p (i, j) here in
+    (within, get_or-map f (pairs n) p (i, j) false within ∙ ap f (get_or_from_slice_get (pairs n) p (i, j) (i, j) here))
+
+-- a mask with the bit of one pair more
+pub mask_more : (f : Pair → Bool) (n i j p mask r : ℕ) (b : Bool) → IsPair n i j → pair_number n i j ≡ p → mask ≡ number_of (take p (map f (pairs n))) →
+    r ≡ cond b (2 ^ p) 0 → b ≡ f (i, j) → mask + r ≡ number_of (take (p + 1) (map f (pairs n)))
+mask_more f n i j p mask r b is e so_far bit flipped =
+    let here = pair_bit f n i j p is e in
+    let within : p < length (map f (pairs n)) = rw (length-map (pairs n) f) here.0 in
+    rw (so_far, bit, flipped, sym here.1, add-one p) (sym (number_more (map f (pairs n)) p within))
+
+-- the mask once all pairs are passed
+pub mask_all : (f : Pair → Bool) (n p mask : ℕ) → p ≡ pair_count n → mask ≡ number_of (take p (map f (pairs n))) → mask ≡ number_of (map f (pairs n))
+mask_all f n p mask e so_far =
+    let order = pairs_in_order n in
+    let count = order.count in
+    so_far ∙ ap number_of (take_all p (map f (pairs n)) (rw (length-map (pairs n) f) (omega arith)))
+
+-- it stays small
+pub small_more : (p mask r : ℕ) → mask < 2 ^ p → r ≤ 2 ^ p → mask + r < 2 ^ (p + 1)
+small_more p mask r low bit = rw (add-one p, power-suc p) (omega arith)
+
+-- another candidate for the least one
+pub least_more : (test : ℕ → Bool) (n : ℕ) (result : Option ℕ) →
+    ((k : ℕ) → least test n ≡ Some k → result ≡ Some k) → (least test n ≡ None → result ≡ cond (test n) (Some n) None) →
+    result ≡ least test (n + 1)
+least_more test n result kept next = rw (add-one n) (go (least test n) refl)
+  where
+    go : (found : Option ℕ) → least test n ≡ found → result ≡ least test (suc n)
+    go (Some k) e = rw e (kept k e)
+    go None e = rw e (next e)
+
+-- a power that a mask of 28 bits can have
+pub small_power : (k : ℕ) → k < 28 → 2 ^ k ≤ 134217728
+small_power k lt = pow-le-pow_right (omega arith) {i = k} {j = 27} (omega arith)
