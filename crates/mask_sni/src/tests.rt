@@ -42,3 +42,15 @@ fn mask_of_a_product(rt: HostRuntime) -> Result<(), Fail> {
     assert_eq!(rt; and_shift::<2>(&Probes::new(), &outputs, 1, 1, 0, 0), 1);
     Ok(())
 }
+
+// A probe on v_01 of a product of three shares needs no share: the fresh bit of its pair makes up for its term.
+#[test]
+fn a_probe_behind_the_fresh_bit_needs_nothing(rt: HostRuntime) -> Result<(), Fail> {
+    let mut probes = Probes::new();
+    probes.push(10);
+    let (left, right) = and_needs::<3>(&probes, &Places::new());
+    assert!(rt; left.is_empty());
+    assert!(rt; right.is_empty());
+    assert_eq!(rt; and_shift::<3>(&probes, &Places::new(), 1, 2, 0, 0), 1);
+    Ok(())
+}
