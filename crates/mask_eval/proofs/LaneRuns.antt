@@ -126,7 +126,7 @@ outputs_of_frame c N frame gates numbers inputs old new seen copies coins is fit
 -- PLAIN VALUES
 
 -- the sum of bits from the left is that from the right
-fold_from : (a : Bool) (xs : List Bool) → fold xor a xs ≡ xor a (xor_all xs)
+pub fold_from : (a : Bool) (xs : List Bool) → fold xor a xs ≡ xor a (xor_all xs)
 fold_from a [] = sym (xor-false a)
 fold_from a (x ∷ xs) = fold_from (xor a x) xs ∙ xor_assoc a x (xor_all xs)
 

@@ -1,3 +1,4 @@
 pub mod Runs
 pub mod LaneRuns
 pub mod Lists
+pub mod Shared

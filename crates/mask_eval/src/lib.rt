@@ -5,12 +5,14 @@ mod evaluation;
 mod frames;
 mod gates;
 mod listing;
+mod sharing;
 mod watching;
 mod words;
 
 pub use evaluation::eval;
 pub use frames::Frame;
 pub use listing::{ListWatch, Seen};
+pub use sharing::share;
 pub use watching::{NoWatch, Watch};
 
 #[cfg(test)]

@@ -1,0 +1,81 @@
+-- Words shared with coins: step by step, lane by lane, and what the shares stand for.
+use Rattle.std.proofs.Common.{◌≡◌, ℕ, zero, suc, ◌+◌, ◌-◌, ◌*◌, ◌<◌, ◌≤◌, Bool, List, [], ◌∷◌, ◌++◌, length, map, take, drop, get_or, fold, refl, ap, ap₂, sym, ◌∙◌, arith, length-drop}
+use Rattle.std.proofs.lemmas.List.{take_more, take-take, drop-take, drop-drop, get_or-drop, take-map, drop-map}
+use Rattle.std.proofs.Math.Nat.{mul-le-mul_left}
+use Rattle.mask_circuit.specs.Value.{xor}
+use Rattle.mask_circuit.specs.Ring.{Ring, bits}
+use Rattle.mask_laws.specs.Sharing.{xor_all}
+use Rattle.mask_laws.proofs.Bits.{xor-false, xor_assoc, xor_self}
+use Rattle.mask_shares.specs.Sharing.{shared, all_shared, unmasked}
+use Rattle.mask_gadget.proofs.Lanes.{Keeps}
+use Rattle.mask_tape.specs.Drawn.{Drawn, ahead}
+use Rattle.mask_eval.proofs.LaneRuns.{fold_from}
+
+-- one coin more
+pub ahead_more : (n : ℕ) (c : Drawn) → c.used + n < length c.words → ahead (n + 1) c ≡ ahead n c ++ get_or c.words (c.used + n) 0 ∷ []
+ahead_more n c lt =
+    let within : n < length (drop c.used c.words) = omega (arith, length-drop c.used c.words) in
+    take_more (drop c.used c.words) n 0 within ∙ ap (λ (x : ℕ). ahead n c ++ x ∷ []) (get_or-drop c.used c.words n 0)
+
+-- LANES
+
+module _ {X Y : Type 0} (R : Ring X) (S : Ring Y) (h : X → Y) (keeps : Keeps R S h) where
+  pub fold-keeps : (x : X) (xs : List X) → h (fold R.add x xs) ≡ fold S.add (h x) (map h xs)
+  fold-keeps x [] = refl
+  fold-keeps x (y ∷ ys) = fold-keeps (R.add x y) ys ∙ ap (λ (z : Y). fold S.add z (map h ys)) (keeps.add x y)
+
+  shared-keeps : (x : X) (coins : List X) → map h (shared R x coins) ≡ shared S (h x) (map h coins)
+  shared-keeps x coins = ap (λ (z : Y). z ∷ map h coins) (fold-keeps x coins)
+
+  -- the shares of all values are kept
+  pub all_shared-keeps : (d : ℕ) (xs coins : List X) → map (map h) (all_shared R d xs coins) ≡ all_shared S d (map h xs) (map h coins)
+  all_shared-keeps d [] coins = refl
+  all_shared-keeps d (x ∷ xs) coins =
+      ap₂ (λ (s : List Y) (ss : List (List Y)). s ∷ ss)
+      (shared-keeps x (take d coins) ∙ ap (shared S (h x)) (sym (take-map h d coins)))
+      (all_shared-keeps d xs (drop d coins) ∙ ap (all_shared S d (map h xs)) (sym (drop-map h d coins)))
+
+-- WHAT SHARES STAND FOR
+
+-- the sum of all shares is the value
+pub shared-unmasks : (b : Bool) (coins : List Bool) → unmasked bits (shared bits b coins) ≡ b
+shared-unmasks b coins =
+    fold_from (fold xor b coins) coins
+    ∙ ap (λ (x : Bool). xor x (xor_all coins)) (fold_from b coins)
+    ∙ xor_assoc b (xor_all coins) (xor_all coins)
+    ∙ ap (xor b) (xor_self (xor_all coins))
+    ∙ xor-false b
+
+pub all_shared-unmask : (d : ℕ) (bs coins : List Bool) → map (unmasked bits) (all_shared bits d bs coins) ≡ bs
+all_shared-unmask d [] coins = refl
+all_shared-unmask d (b ∷ bs) coins =
+    ap₂ (λ (c : Bool) (cs : List Bool). c ∷ cs) (shared-unmasks b (take d coins)) (all_shared-unmask d bs (drop d coins))
+
+-- STEPS
+
+module _ {X : Type 0} (R : Ring X) where
+  -- just d coins are used for each value
+  pub all_shared-take : (d : ℕ) (xs coins : List X) → all_shared R d xs (take (d * length xs) coins) ≡ all_shared R d xs coins
+  all_shared-take d [] coins = refl
+  all_shared-take d (x ∷ xs) coins =
+      let more : d * suc (length xs) ≡ d + d * length xs = omega arith in
+      let first : take d (take (d + d * length xs) coins) ≡ take d coins = take-take d (d + d * length xs) coins (omega arith) in
+      let rest : drop d (take (d + d * length xs) coins) ≡ take (d * length xs) (drop d coins) = drop-take d (d * length xs) coins in
+      ap (λ (n : ℕ). all_shared R d (x ∷ xs) (take n coins)) more
+      ∙ ap₂ (λ (s t : List X). shared R x s ∷ all_shared R d xs t) first rest
+      ∙ ap (λ (ss : List (List X)). shared R x (take d coins) ∷ ss) (all_shared-take d xs (drop d coins))
+
+  -- one value more
+  pub all_shared-push : (d : ℕ) (xs : List X) (x : X) (coins : List X) →
+      all_shared R d (xs ++ x ∷ []) coins ≡ all_shared R d xs coins ++ shared R x (take d (drop (d * length xs) coins)) ∷ []
+  all_shared-push d [] x coins = let none : 0 ≡ d * 0 = omega arith in ap (λ (n : ℕ). shared R x (take d (drop n coins)) ∷ []) none
+  all_shared-push d (y ∷ ys) x coins =
+      let more : d + d * length ys ≡ d * suc (length ys) = omega arith in
+      ap (λ (ss : List (List X)). shared R y (take d coins) ∷ ss)
+      (all_shared-push d ys x (drop d coins)
+      ∙ ap (λ (cs : List X). all_shared R d ys (drop d coins) ++ shared R x (take d cs) ∷ [])
+      (drop-drop (d * length ys) d coins ∙ ap (λ (n : ℕ). drop n coins) more))
+
+  pub length-all_shared : (d : ℕ) (xs coins : List X) → length (all_shared R d xs coins) ≡ length xs
+  length-all_shared d [] coins = refl
+  length-all_shared d (x ∷ xs) coins = ap suc (length-all_shared d xs (drop d coins))
