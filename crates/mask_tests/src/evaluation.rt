@@ -116,7 +116,7 @@ fn refuses_words_that_are_no_job(rt: HostRuntime) -> Result<(), Fail> {
         (&["k", "seed:00", "check"], 2),
         (&["k", "t", "check", "more"], 4),
         (&["k", "t", "upgrade", "more"], 4),
-        (&["k", "t", "eval", "2", "01"], 4),
+        (&["k", "t", "eval", "8", "01"], 4),
         (&["k", "t", "eval", "1", "0"], 5),
         (&["k", "t", "eval", "1", "01", "01"], 6),
     ];

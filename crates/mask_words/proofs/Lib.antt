@@ -1,4 +1,6 @@
+pub mod JobWords
 pub mod Matching
+pub mod Numbers
 pub mod OneJob
 pub mod Places
 pub mod Trying

@@ -1,10 +1,8 @@
 -- The place at which words are refused is one.
-use Rattle.std.proofs.Common.{◌≡◌, ℕ, ◌+◌, ◌<◌, ◌≤◌, List, [], ◌∷◌, length, true, inl, inr, arith}
+use Rattle.std.proofs.Common.{◌≡◌, ℕ, ◌+◌, ◌<◌, ◌≤◌, List, length, inl, inr, arith}
 use Rattle.std.proofs.lemmas.Bool.{cases_order}
-use Rattle.std.specs.List.{slice_index_or}
-use Rattle.mask_words.specs.declared.table.TheConstants.{EVAL}
-use Rattle.mask_words.specs.WordTests.{Word, is_hex_text}
-use Rattle.mask_words.specs.Jobs.{Match, IsRefused}
+use Rattle.mask_words.specs.WordTests.{Word}
+use Rattle.mask_words.specs.Jobs.{IsRefused}
 
 -- no place below another one is one
 not_below : (ws : List Word) (p q : ℕ) → IsRefused ws p → IsRefused ws q → p < q → ⊥
@@ -18,12 +16,3 @@ refused_at_one_place ws p q at_p at_q =
       | inl same ↦ same
       | inr differ ↦ elim differ [ inl below ↦ absurd (not_below ws p q at_p at_q below) | inr above ↦ absurd (not_below ws q p at_q at_p above) ]
     ]
-
--- the words of `eval` are five, and the last is in hexadecimal
-pub eval_words : (ws : List Word) → Match EVAL ws → (4 < length ws) × (is_hex_text (slice_index_or ws 4 []) ≡ true)
-eval_words [] m = absurd m
-eval_words (a ∷ []) m = absurd m.1
-eval_words (a ∷ b ∷ []) m = absurd m.1.1
-eval_words (a ∷ b ∷ c ∷ []) m = absurd m.1.1.1
-eval_words (a ∷ b ∷ c ∷ d ∷ []) m = absurd m.1.1.1.1
-eval_words (a ∷ b ∷ c ∷ d ∷ e ∷ rest) m = (omega arith, m.1.1.1.1.0)

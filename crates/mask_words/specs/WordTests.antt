@@ -1,12 +1,13 @@
 -- What a word of a command line may be. A word is the list of its bytes.
-use Rattle.std.specs.Prelude.{ℕ, ◌%◌, Bool, not, ◌&&◌, ◌||◌, ◌==◌, nat_eq, nat_le, if◌then◌else◌, List, length, drop, codes, slice_index}
+use Rattle.std.specs.Prelude.{◌≡◌, ℕ, ◌%◌, ◌^◌, ◌<◌, Bool, not, ◌&&◌, ◌||◌, ◌==◌, nat_eq, nat_lt, nat_le, IsTrue, if◌then◌else◌, List, length, drop, codes, decimal, slice_index}
 use Rattle.std.specs.List.{list_all, starts_with}
 use Rattle.std.specs.Str.{bytes_eq}
+use Rattle.std.specs.Str.Parse.{digits_value}
 use Rattle.std.specs.Char.{is_ascii_hexdigit}
 use Rattle.mask_words.specs.declared.word_tests.Command.{Command}
-use Rattle.mask_words.specs.declared.word_tests.Command.TheVariants.{Eval, Check, Upgrade}
+use Rattle.mask_words.specs.declared.word_tests.Command.TheVariants.{Eval, Check, Upgrade, Probe}
 use Rattle.mask_words.specs.declared.word_tests.Test.{Test}
-use Rattle.mask_words.specs.declared.word_tests.Test.TheVariants.{Given, Tape, Named, Order, Hex}
+use Rattle.mask_words.specs.declared.word_tests.Test.TheVariants.{Given, Tape, Named, Order, Hex, Wire}
 
 abbrev pub Word : Type 0
 Word = List ℕ
@@ -15,6 +16,7 @@ abbrev pub command_text : Command → Word
 command_text Eval = codes "eval"
 command_text Check = codes "check"
 command_text Upgrade = codes "upgrade"
+command_text Probe = codes "probe"
 
 -- digits of either case
 abbrev pub are_hex_digits : Word → Bool
@@ -26,13 +28,21 @@ is_tape w =
     if starts_with nat_eq w (codes "seed:") then length (drop 5 w) == 64 && are_hex_digits (drop 5 w)
     else not (length w == 0)
 
--- one digit: until all orders are evaluated, 1 alone
+-- one digit from `1` to `7`
 abbrev pub is_order : Word → Bool
-is_order w = length w == 1 && nat_le 49 (slice_index w 0) && nat_le (slice_index w 0) 49
+is_order w = length w == 1 && nat_le 49 (slice_index w 0) && nat_le (slice_index w 0) 55
 
 -- `-`, or an even number of digits, at least two
 abbrev pub is_hex_text : Word → Bool
 is_hex_text w = bytes_eq w (codes "-") || (not (length w == 0) && length w % 2 == 0 && are_hex_digits w)
+
+-- the number that a word of decimal digits spells, highest digit first
+abbrev pub number_of : Word → ℕ
+number_of w = digits_value 10 w
+
+-- the spelling of a number below 2^32, with no needless zero
+abbrev pub is_number : Word → Bool
+is_number w = nat_lt (number_of w) (2 ^ 32) && bytes_eq w (decimal (number_of w))
 
 abbrev pub passes : Test → Word → Bool
 passes Given w = not (length w == 0)
@@ -40,3 +50,11 @@ passes Tape w = is_tape w
 passes (Named c) w = bytes_eq w (command_text c)
 passes Order w = is_order w
 passes Hex w = is_hex_text w
+passes Wire w = is_number w
+
+-- Each number below 2^32 has a word, each word that passes spells such a number, and none spells two.
+pub record WiresHaveOneNumber : Type 0 where
+  pub word : (n : ℕ) → n < 2 ^ 32 → IsTrue (is_number (decimal n))
+  pub below : (w : Word) → IsTrue (is_number w) → number_of w < 2 ^ 32
+  pub spelled : (w : Word) → IsTrue (is_number w) → w ≡ decimal (number_of w)
+  pub one : (m n : ℕ) → m < 2 ^ 32 → n < 2 ^ 32 → decimal m ≡ decimal n → m ≡ n

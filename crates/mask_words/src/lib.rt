@@ -7,3 +7,7 @@ mod word_tests;
 
 pub use command_lines::{MAX_WORDS, Words};
 pub use table::{BadWords, Job, read_words, words_have_one_answer};
+pub use word_tests::{wire_of, wires_have_one_number};
+
+#[cfg(test)]
+mod tests;

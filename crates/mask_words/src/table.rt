@@ -3,7 +3,8 @@
 ghost use Rattle.std.specs.Prelude.{◌≡◌, ℕ, ◌+◌, ◌-◌, ◌*◌, ◌<◌, ◌≤◌, List, length, IfOk, IfErr, drop, take};
 ghost use Rattle.std.specs.Prelude.{IsTrue, ◌↔◌};
 ghost use Rattle.mask_words.specs.WordTests.{is_order};
-ghost use Rattle.mask_words.specs.Jobs.{tests_of, reach, Match, order_of, job_of, IsJob, IsRefused, HaveOneJob, HaveOnePlace};
+ghost use Rattle.mask_words.specs.Jobs.{tests_of, tail_of, reach, Match, order_of, job_of, IsJob, IsRefused, HasOrder, HasWords, HaveOneJob, HaveOnePlace};
+ghost use Rattle.mask_words.specs.declared.command_lines.TheConstants.{MAX_WORDS};
 
 use crate::command_lines::Words;
 use crate::word_tests::{Command, Test};
@@ -17,10 +18,12 @@ pub enum Form {
     Check,
     /// `KEYS TAPE upgrade`
     Upgrade,
+    /// `KEYS TAPE probe ORDER WIRE ..`, with no, one or more WIRE words
+    Probe,
 }
 
 /// All forms.
-pub const FORMS: [Form; 3] = [Form::Eval, Form::Check, Form::Upgrade];
+pub const FORMS: [Form; 4] = [Form::Eval, Form::Check, Form::Upgrade, Form::Probe];
 
 /// The words of `eval`.
 pub const EVAL: [Test; 5] = [
@@ -37,6 +40,14 @@ pub const CHECK: [Test; 3] = [Test::Given, Test::Tape, Test::Named(Command::Chec
 /// The words of `upgrade`.
 pub const UPGRADE: [Test; 3] = [Test::Given, Test::Tape, Test::Named(Command::Upgrade)];
 
+/// The words of `probe` before those that name wires.
+pub const PROBE: [Test; 4] = [
+    Test::Given,
+    Test::Tape,
+    Test::Named(Command::Probe),
+    Test::Order,
+];
+
 /// What the words of a command line ask for.
 #[derive(Clone, Copy, Debug, PartialEq, Eq)]
 pub enum Job {
@@ -46,6 +57,8 @@ pub enum Job {
     Check,
     /// Write a circuit text of either version in version 2.
     Upgrade,
+    /// Evaluate a circuit at this order, 1 to 7, with probes on wires: the words from the fifth on.
+    Probe { order: u32 },
 }
 
 /// The words are no job. No job's words begin with the first `place` words, or more words are wanted than there are.
@@ -63,16 +76,34 @@ impl Form {
             Form::Eval => &EVAL,
             Form::Check => &CHECK,
             Form::Upgrade => &UPGRADE,
+            Form::Probe => &PROBE,
+        }
+    }
+
+    /// What any further words are tested for, where a form may have them.
+    fn tail(self) -> Option<Test>
+        ensures { result ≡ tail_of self }
+    {
+        match self {
+            Form::Eval | Form::Check | Form::Upgrade => None,
+            Form::Probe => Some(Test::Wire),
         }
     }
 }
 
 /// How many words from the front pass their tests.
-fn reach(tests: &[Test], words: &Words) -> usize
-    ensures { result ≡ reach tests.now words.now }
+fn reach(tests: &[Test], tail: Option<Test>, words: &Words) -> usize
+    ensures count { result ≡ reach tests.now tail words.now }
+    ensures limit { result ≤ MAX_WORDS }
 {
     let mut passed = 0;
-    while passed < tests.len() && passed < words.len() && tests[passed].passes(words.word(passed)) {
+    while passed < words.len() {
+        let Some(test) = tests.get(passed).copied().or(tail) else {
+            break;
+        };
+        if !test.passes(words.word(passed)) {
+            break;
+        }
         passed += 1;
     }
     passed
@@ -82,10 +113,14 @@ fn reach(tests: &[Test], words: &Words) -> usize
 pub fn read_words(words: &Words) -> Result<Job, BadWords>
     ensures job { IfOk result (IsJob words.now) }
     ensures refused { IfErr result (λ e. IsRefused words.now e.place) }
+
+    // What a caller may rely on where it reads the words of the job again.
+    ensures order { IfOk result HasOrder }
+    ensures words { IfOk result (HasWords words.now) }
 {
     let mut farthest = 0;
     for form in FORMS {
-        let passed = reach(form.tests(), words);
+        let passed = reach(form.tests(), form.tail(), words);
         if is_whole(form, words, passed) {
             return Ok(job_of(form, words));
         }
@@ -100,14 +135,14 @@ pub fn read_words(words: &Words) -> Result<Job, BadWords>
 
 // All tests are passed, and no word is left.
 fn is_whole(form: Form, words: &Words, passed: usize) -> bool
-    requires { passed ≡ reach (tests_of form) words.now }
-    ensures { IsTrue result ↔ Match (tests_of form) words.now }
+    requires { passed ≡ reach (tests_of form) (tail_of form) words.now }
+    ensures { IsTrue result ↔ Match (tests_of form) (tail_of form) words.now }
 {
-    passed == form.tests().len() && passed == words.len()
+    passed >= form.tests().len() && passed == words.len()
 }
 
 fn job_of(form: Form, words: &Words) -> Job
-    requires { Match (tests_of form) words.now }
+    requires { Match (tests_of form) (tail_of form) words.now }
     ensures { result ≡ job_of form words.now }
 {
     match form {
@@ -116,6 +151,9 @@ fn job_of(form: Form, words: &Words) -> Job
         },
         Form::Check => Job::Check,
         Form::Upgrade => Job::Upgrade,
+        Form::Probe => Job::Probe {
+            order: order_of(words.word(3)),
+        },
     }
 }
 

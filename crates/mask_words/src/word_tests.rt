@@ -1,8 +1,10 @@
 //! What a single word of a command line may be.
 
 ghost use Rattle.std.specs.Prelude.{◌≡◌, ℕ, ◌<◌, List, length};
-ghost use Rattle.std.specs.Prelude.{codes};
-ghost use Rattle.mask_words.specs.WordTests.{passes, command_text, are_hex_digits, is_hex_text, is_tape, is_order};
+ghost use Rattle.std.specs.Prelude.{codes, IsTrue};
+ghost use Rattle.mask_words.specs.WordTests.{passes, command_text, are_hex_digits, is_hex_text, is_tape, is_order, is_number, number_of, WiresHaveOneNumber};
+
+use itoa::Buffer;
 
 /// The name of a command.
 #[derive(Clone, Copy, Debug, PartialEq, Eq)]
@@ -13,6 +15,8 @@ pub enum Command {
     Check,
     /// `upgrade`
     Upgrade,
+    /// `probe`
+    Probe,
 }
 
 impl Command {
@@ -23,6 +27,7 @@ impl Command {
             Command::Eval => "eval",
             Command::Check => "check",
             Command::Upgrade => "upgrade",
+            Command::Probe => "probe",
         }
     }
 }
@@ -36,10 +41,12 @@ pub enum Test {
     Tape,
     /// The name of this command.
     Named(Command),
-    /// An order: one digit, from 1 to the largest order.
+    /// An order: one digit, from 1 to 7.
     Order,
     /// Bytes in hexadecimal: `-` for none, or an even number of digits, at least two, in either case.
     Hex,
+    /// The number of a wire: in decimal, without a needless zero, and less than 2^32.
+    Wire,
 }
 
 impl Test {
@@ -53,6 +60,7 @@ impl Test {
             Test::Named(command) => word == command.text(),
             Test::Order => is_order(word.as_bytes()),
             Test::Hex => is_hex_text(word),
+            Test::Wire => is_number(word),
         }
     }
 }
@@ -76,7 +84,7 @@ fn is_order(word: &[u8]) -> bool
     ensures { result ≡ is_order word.now }
 {
     match word {
-        [digit] => *digit >= b'1' && *digit <= b'1',
+        [digit] => *digit >= b'1' && *digit <= b'7',
         _ => false,
     }
 }
@@ -86,3 +94,26 @@ fn is_hex_text(word: &str) -> bool
 {
     word == "-" || (!word.is_empty() && word.len() % 2 == 0 && are_hex_digits(word.as_bytes()))
 }
+
+// Only the spelling of a number is written the same again.
+fn is_number(word: &str) -> bool
+    ensures { result ≡ is_number word.now }
+{
+    match word.parse::<u32>() {
+        Ok(number) => Buffer::new().format(number) == word,
+        Err(_) => false,
+    }
+}
+
+/// The number that a WIRE word spells.
+pub fn wire_of(word: &str) -> u32
+    requires { IsTrue (is_number word.now) }
+    ensures { result ≡ number_of word.now }
+{
+    word.parse::<u32>().unwrap()
+}
+
+/// Each number below 2^32 has a WIRE word, and each WIRE word spells one number.
+pub fn wires_have_one_number()
+    ensures { WiresHaveOneNumber }
+{}

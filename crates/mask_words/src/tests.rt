@@ -1,0 +1,72 @@
+use super::{BadWords, Job, MAX_WORDS, Words, read_words, wire_of};
+use std::alloc::{AllocError, Global};
+use std::test::Fail;
+
+fn words_of(alloc: Global, list: &[&str]) -> Result<Words, AllocError> {
+    let mut words = Words::new(alloc);
+    for word in list {
+        if words.len() < MAX_WORDS {
+            words.push(word)?;
+        }
+    }
+    Ok(words)
+}
+
+#[test]
+fn reads_the_words_of_a_job(rt: HostRuntime) -> Result<(), Fail> {
+    let cases: [(&[&str], Job); 5] = [
+        (&["k", "t", "eval", "7", "01"], Job::Eval { order: 7 }),
+        (&["k", "t", "check"], Job::Check),
+        (&["k", "t", "upgrade"], Job::Upgrade),
+        (&["k", "t", "probe", "1"], Job::Probe { order: 1 }),
+        (
+            &["k", "t", "probe", "2", "0", "4294967295"],
+            Job::Probe { order: 2 },
+        ),
+    ];
+    for (list, job) in cases {
+        let words = words_of(rt.alloc(), list)?;
+        assert_eq!(rt; read_words(&words), Ok(job));
+    }
+    Ok(())
+}
+
+#[test]
+fn refuses_words_at_their_place(rt: HostRuntime) -> Result<(), Fail> {
+    let cases: [(&[&str], u32); 13] = [
+        (&[], 1),
+        (&["k", "t"], 3),
+        (&["k", "seed:00", "check"], 2),
+        (&["k", "t", "check", "more"], 4),
+        (&["k", "t", "eval", "0", "01"], 4),
+        (&["k", "t", "eval", "8", "01"], 4),
+        (&["k", "t", "eval", "1", "0"], 5),
+        (&["k", "t", "probe"], 4),
+        (&["k", "t", "probe", "0", "1"], 4),
+        (&["k", "t", "probe", "1", "01"], 5),
+        (&["k", "t", "probe", "1", "+1"], 5),
+        (&["k", "t", "probe", "1", "4294967296"], 5),
+        (&["k", "t", "probe", "1", "3", "x"], 6),
+    ];
+    for (list, place) in cases {
+        let words = words_of(rt.alloc(), list)?;
+        assert_eq!(rt; read_words(&words), Err(BadWords { place }));
+    }
+    Ok(())
+}
+
+// The number of the last wire that `probe` names.
+fn last_wire(words: &Words) -> Option<u32> {
+    let count = words.len();
+    match read_words(words) {
+        Ok(Job::Probe { .. }) if count > 4 => Some(wire_of(words.word(count - 1))),
+        _ => None,
+    }
+}
+
+#[test]
+fn reads_the_number_of_a_wire(rt: HostRuntime) -> Result<(), Fail> {
+    let words = words_of(rt.alloc(), &["k", "t", "probe", "1", "7", "4294967295"])?;
+    assert_eq!(rt; last_wire(&words), Some(4_294_967_295));
+    Ok(())
+}
