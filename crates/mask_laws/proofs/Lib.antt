@@ -4,6 +4,7 @@ pub mod BridgeExamples
 pub mod CircuitNames
 pub mod Clashing
 pub mod Confining
+pub mod Counting
 pub mod Demands
 pub mod Fitting
 pub mod FittingExamples

@@ -51,7 +51,7 @@ size-one (suc n) o a only = go (size-one n o a only) (a n) refl
     go up false at = rw at (omega arith)
 
 -- Where each probe passes for one number at most, its owner, the probes together pass for no more numbers than there are probes.
-pub size-owned : (n : ℕ) (test : ℕ → Wire → Bool) (owner : Wire → ℕ) (Q : List Wire) → ((i : ℕ) (w : Wire) → test i w ≡ true → i ≡ owner w) →
+pub size-owned : {A : Type 0} (n : ℕ) (test : ℕ → A → Bool) (owner : A → ℕ) (Q : List A) → ((i : ℕ) (w : A) → test i w ≡ true → i ≡ owner w) →
     size n (λ i. list_any (test i) Q) ≤ length Q
 size-owned n test owner [] own = let none = size-none n (λ i. false) (λ i lt. refl) in omega arith
 size-owned n test owner (w ∷ Q) own =

@@ -1,10 +1,12 @@
 -- The members of a set of shares, share by share, and how many there are.
-use Rattle.std.proofs.Common.{◌≡◌, ℕ, zero, suc, ◌+◌, ◌≤◌, Bool, true, false, List, [], ◌∷◌, ◌++◌, length, slice_index_or, refl, arith, add-one, length-append}
+use Rattle.std.proofs.Common.{◌≡◌, ◌⊎◌, ℕ, zero, suc, ◌+◌, ◌<◌, ◌≤◌, inl, inr, Contains, sym, subst, Bool, true, false, List, [], ◌∷◌, ◌++◌, length, slice_index_or, refl, arith, add-one, length-append}
+use Rattle.std.specs.List.{filter}
 use Rattle.std.proofs.lemmas.List.{append-nil, length-map}
-use Rattle.std.proofs.lemmas.List.Elements.{filter-append}
+use Rattle.std.proofs.lemmas.List.Elements.{filter-append, Contains-append_left, Contains-push}
 use Rattle.mask_circuit.specs.Wires.{Wire, Share, each}
 use Rattle.mask_circuit.specs.Probing.{size}
 use Rattle.mask_circuit.specs.Need.{ShareSet, left_need, right_need, refresh_need}
+use Rattle.mask_laws.proofs.Members.{below_cases}
 use Rattle.mask_laws.proofs.Needs.{needs_are_small}
 use Rattle.mask_sni.specs.Asked.{members, wires_at}
 
@@ -24,7 +26,7 @@ length-members set (suc n) = go (length-members set n) (set n) refl
     go up true e = rw (filter-append set (each (λ (k : ℕ). k) n) (n ∷ []), e, length-append (members n set) (n ∷ []), up) refl
     go up false e = rw (filter-append set (each (λ (k : ℕ). k) n) (n ∷ []), e, append-nil (members n set), up) (omega arith)
 
-length-wires_at : (names : List Wire) (P : List ℕ) → length (wires_at names P) ≡ length P
+pub length-wires_at : (names : List Wire) (P : List ℕ) → length (wires_at names P) ≡ length P
 length-wires_at names P = length-map P (λ (p : ℕ). slice_index_or names p (Share 0))
 
 -- the needs are no more than the probes
@@ -48,3 +50,16 @@ refresh_few n names P =
     let count = length-members (refresh_need (wires_at names P)) n in
     let probes = length-wires_at names P in
     let most = law.2 in omega arith
+
+-- a share of the set is among its members
+pub Contains-members : (set : ShareSet) (n i : ℕ) → i < n → set i ≡ true → Contains (members n set) i
+Contains-members set zero i lt e = absurd (omega arith)
+Contains-members set (suc n) i lt e = go (Contains-members set n i) (below_cases i n lt)
+  where
+    go : (i < n → set i ≡ true → Contains (members n set) i) → (i < n) ⊎ (i ≡ n) → Contains (members (suc n) set) i
+    go up (inl low) =
+        rw (filter-append set (each (λ (k : ℕ). k) n) (n ∷ [])) (Contains-append_left (members n set) (filter set (n ∷ [])) i (up low e))
+    go up (inr here) =
+        let last : set n ≡ true = rw here at e in
+        rw (filter-append set (each (λ (k : ℕ). k) n) (n ∷ []), last)
+        (subst (λ (k : ℕ). Contains (members n set ++ n ∷ []) k) (sym here) (Contains-push (members n set) n))

@@ -5,9 +5,10 @@ ghost use Rattle.std.specs.Prelude.{◌≡◌, ◌≢◌, Some, None, ◌+◌, �
 ghost use Rattle.mask_circuit.specs.declared.gates.Gate.TheVariants.{And};
 ghost use Rattle.mask_circuit.specs.Ring.{bits};
 ghost use Rattle.mask_circuit.specs.Wires.{Left, product_names};
-ghost use Rattle.mask_circuit.specs.Need.{product_rows};
+ghost use Rattle.mask_circuit.specs.Need.{product_rows, left_need, right_need};
 ghost use Rattle.mask_circuit.specs.Shift.{wire_between, partner, is_probed, is_some_of, product_change, product_base, cross_change, share_change, product_mask, gate_mask};
-ghost use Rattle.mask_sni.specs.Asked.{AreAsked, in_places, number_of, operand_shares, operand_sides, wires_at};
+ghost use Rattle.mask_sni.specs.Asked.{AreAsked, in_places, members, number_of, operand_shares, operand_sides, wires_at};
+ghost use Rattle.mask_sni.specs.Keeping.{watched, AgreeAt, MaskKeeps};
 
 use crate::needs::touches_row;
 use crate::shifts::{is_place, or_share, pair_bit, share_of};
@@ -43,6 +44,12 @@ pub fn and_shift<const N: usize>(
     ensures symmetric { result
         ≡ number_of (gate_mask N (And 0 1) (wires_at (product_names N) probes.now.items) (in_places outputs.now.items)
         (operand_shares a2 b2) (operand_shares a b)) }
+
+    // Sides that agree on the needed shares show the same, with fresh bits on the one and the masked ones on the other.
+    ensures keeps { AgreeAt (members N (left_need (wires_at (product_names N) probes.now.items))) a a2 →
+        AgreeAt (members N (right_need (wires_at (product_names N) probes.now.items))) b b2 →
+        MaskKeeps N (And 0 1) (watched (product_names N) probes.now.items outputs.now.items)
+        (operand_shares a b) (operand_shares a2 b2) result }
 {
     let n = N as u8;
     let sides = Operands { a, b, a2, b2 };

@@ -7,7 +7,8 @@ ghost use Rattle.mask_circuit.specs.Wires.{Fresh, refresh_names};
 ghost use Rattle.mask_circuit.specs.Need.{refresh_need};
 ghost use Rattle.mask_circuit.specs.Value.{xor};
 ghost use Rattle.mask_circuit.specs.Shift.{wire_between, partner, is_probed, is_some_of, refresh_mask, gate_mask};
-ghost use Rattle.mask_sni.specs.Asked.{AreAsked, bit_shares, in_places, number_of, wires_at};
+ghost use Rattle.mask_sni.specs.Asked.{AreAsked, bit_shares, in_places, members, number_of, wires_at};
+ghost use Rattle.mask_sni.specs.Keeping.{watched, AgreeAt, MaskKeeps};
 
 use crate::needs::is_updated;
 use crate::wires::{pair_at, refresh_wire};
@@ -26,6 +27,11 @@ pub fn ref_shift<const N: usize>(probes: &Probes, outputs: &Places, a: u8, a2: u
     ensures symmetric { result
         ≡ number_of (gate_mask N (Ref 0) (wires_at (refresh_names N) probes.now.items) (in_places outputs.now.items)
         (λ u. bit_shares a2) (λ u. bit_shares a)) }
+
+    // Sides that agree on the needed shares show the same, with fresh bits on the one and the masked ones on the other.
+    ensures keeps { AgreeAt (members N (refresh_need (wires_at (refresh_names N) probes.now.items))) a a2 →
+        MaskKeeps N (Ref 0) (watched (refresh_names N) probes.now.items outputs.now.items)
+        (λ u. bit_shares a) (λ u. bit_shares a2) result }
 {
     let n = N as u8;
     let mut mask: u32 = 0;

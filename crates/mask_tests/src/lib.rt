@@ -6,4 +6,6 @@ mod checking;
 #[cfg(test)]
 mod evaluation;
 #[cfg(test)]
+mod gadgets;
+#[cfg(test)]
 mod runs;

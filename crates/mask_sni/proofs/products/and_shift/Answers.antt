@@ -2,9 +2,10 @@ use Rattle.std.proofs.Common.{arith, ap, ◌∙◌}
 use Rattle.mask_circuit.specs.declared.gates.Gate.TheVariants.{And}
 use Rattle.mask_circuit.specs.Wires.{Pair, product_names}
 use Rattle.mask_circuit.specs.Shift.{product_mask}
+use Rattle.mask_laws.proofs.Counting.{small}
 use Rattle.mask_laws.proofs.Symmetry.{mask_is_symmetric}
 use Rattle.mask_sni.specs.Asked.{operand_shares, operand_sides, in_places, number_of, wires_at}
-use Rattle.mask_sni.proofs.Numbers.{small}
+use Rattle.mask_sni.proofs.Keeping.{product_mask_keeps}
 use Rattle.mask_sni.proofs.Masks.{mask_more, mask_all, small_more, small_power}
 use Rattle.mask_sni.proofs.products.and_shift.Goals as goal
 
@@ -38,3 +39,8 @@ returns-clause-symmetric g c =
     ∙ ap number_of
     (mask_is_symmetric g.row.N (And 0 1) (wires_at (product_names g.row.N) c.args.probes.now.items) (in_places c.args.outputs.now.items)
     (operand_shares c.args.a c.args.b) (operand_shares c.args.a2 c.args.b2))
+
+pub returns-clause-keeps : goal.returns-clause-keeps
+returns-clause-keeps g c left right =
+    product_mask_keeps g.row.N c.args.a c.args.b c.args.a2 c.args.b2 c.args.probes.now.items c.args.outputs.now.items _
+    c.requires.some c.requires.asked (returns-clause-mask g c) left right
