@@ -4,7 +4,7 @@ use Rattle.std.proofs.Math.Nat.{mul-le-mul_right}
 use Rattle.mask_circuit.specs.Wires.{pairs}
 use Rattle.mask_laws.specs.Names.{pairs_before, pair_number, pair_count}
 use Rattle.mask_laws.proofs.LocalNumbers.{pairs_in_order}
-use Rattle.mask_laws.proofs.Members.{below_cases}
+use Rattle.mask_circuit.proofs.Places.{below_cases}
 
 -- twice the number of pairs in the rows before row i
 twice_before : (n i : ℕ) → i ≤ n → 2 * pairs_before n i + i * suc i ≡ 2 * (i * n)

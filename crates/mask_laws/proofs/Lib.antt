@@ -9,7 +9,6 @@ pub mod Fitting
 pub mod FittingExamples
 pub mod Flips
 pub mod FreshBits
-pub mod GateAt
 pub mod GateExamples
 pub mod Gates
 pub mod Keeping
@@ -19,7 +18,6 @@ pub mod Names
 pub mod Needs
 pub mod Numbering
 pub mod OutputShares
-pub mod Places
 pub mod Probes
 pub mod Products
 pub mod Reaching
