@@ -1,5 +1,6 @@
 -- The wires of a circuit by number and by name.
-use Rattle.std.proofs.Common.{◌≡◌, ℕ, zero, suc, ◌+◌, ◌-◌, ◌*◌, ◌/◌, ◌<◌, ◌≤◌, List, [], ◌∷◌, ◌++◌, map, length, slice_get, slice_index_or, Some, refl, ap, ap₂, sym, ◌∙◌, arith, append_assoc, append-nil, length-append, add-one, ◌⊎◌, inl, inr}
+use Rattle.std.proofs.Common.{◌≡◌, ℕ, zero, suc, ◌+◌, ◌-◌, ◌*◌, ◌/◌, ◌<◌, ◌≤◌, List, [], ◌∷◌, ◌++◌, map, length, slice_get, slice_index_or, Some, None, refl, ap, ap₂, sym, ◌∙◌, arith, append_assoc, append-nil, length-append, add-one, ◌⊎◌, inl, inr}
+use Rattle.std.specs.declared.option.Option.{Option}
 use Rattle.std.specs.Option.{option_map}
 use Rattle.std.proofs.lemmas.List.{map-append, length-map}
 use Rattle.std.proofs.lemmas.Bool.{cases_lt}
@@ -7,8 +8,10 @@ use Rattle.std.proofs.lemmas.Nat.{div-add-mod'}
 use Rattle.std.proofs.Math.Nat.{mul-le-mul_right}
 use Rattle.std.proofs.lemmas.Option.{slice_get-map, slice_get-get_or}
 use Rattle.mask_circuit.specs.declared.gates.Gate.{Gate}
+use Rattle.mask_circuit.specs.declared.gates.Gate.TheVariants.{Zero, One, Xor, Not, And, Ref}
 use Rattle.mask_circuit.specs.Netlist.{Netlist, value_count}
 use Rattle.mask_circuit.specs.Wires.{Wire, Share, each, joined, gate_names, product_names, refresh_names}
+use Rattle.mask_circuit.specs.Acceptance.{gate_at}
 use Rattle.mask_circuit.specs.Expansion.{Place, names, names_from, names_by, names_of, wires_before, wire_count}
 use Rattle.mask_circuit.proofs.GateAt.{AreGatesAt, AreGatesAt-all, gate_at_input}
 use Rattle.mask_circuit.proofs.Places.{length-each, slice_get-joined}
@@ -136,3 +139,22 @@ inputs_passed c N v p some inputs whole =
 pub value_passed : (c : Netlist) (N v rest count p : ℕ) → count ≡ length (names_of c N v) → count ≤ rest → wires_before c N v + rest ≡ p →
     wires_before c N (v + 1) + (rest - count) ≡ p
 value_passed c N v rest count p is le left = rw (add-one v) (omega arith)
+
+-- no value has more wires than a product of 8 shares
+most_wires : (n : ℕ) → 2 ≤ n → n ≤ 8 → n * n + 3 * (n * (n - 1) / 2) + n * (n - 1) ≤ 204
+most_wires n some few = grind arith
+
+length-gate_names : (n : ℕ) (g : Gate) → 2 ≤ n → n ≤ 8 → length (gate_names n g) ≤ 204
+length-gate_names n Zero some few = omega (arith, length-each Share n)
+length-gate_names n One some few = omega (arith, length-each Share n)
+length-gate_names n (Xor u v) some few = omega (arith, length-each Share n)
+length-gate_names n (Not u) some few = omega (arith, length-each Share n)
+length-gate_names n (And u v) some few = omega (arith, length-product_names n some few, most_wires n some few)
+length-gate_names n (Ref u) some few = omega (arith, length-refresh_names n some few, most_wires n some few)
+
+length-names_by : (n : ℕ) (o : Option Gate) → 2 ≤ n → n ≤ 8 → length (names_by n o) ≤ 204
+length-names_by n None some few = length-gate_names n Zero some few
+length-names_by n (Some g) some few = length-gate_names n g some few
+
+pub length-names_of : (c : Netlist) (N v : ℕ) → 2 ≤ N → N ≤ 8 → length (names_of c N v) ≤ 204
+length-names_of c N v some few = length-names_by N (gate_at c v) some few
