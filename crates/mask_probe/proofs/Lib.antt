@@ -1,1 +1,3 @@
 pub mod Locating
+pub mod OwnProbes
+pub mod ShareSets

@@ -2,6 +2,8 @@
 #![tactic(auto)]
 
 mod errors;
+mod inner;
 mod places;
+mod sets;
 
 pub use errors::ProbeError;
