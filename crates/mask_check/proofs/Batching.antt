@@ -8,7 +8,7 @@ use Rattle.mask_circuit.specs.declared.gates.Gate.{Gate}
 use Rattle.mask_circuit.specs.declared.gates.Gate.TheVariants.{Zero, One, Xor, Not, And, Ref}
 use Rattle.mask_circuit.specs.Netlist.{Netlist, IsCircuit, value_count}
 use Rattle.mask_circuit.specs.Acceptance.{gate_at}
-use Rattle.mask_laws.proofs.GateAt.{gate_at_operands}
+use Rattle.mask_circuit.proofs.GateAt.{gate_at_operands}
 use Rattle.mask_check.specs.declared.batches.Batch.{Batch}
 use Rattle.mask_check.specs.Marks.{IsMarked, with_marks}
 use Rattle.mask_check.specs.Batches.{product_at, products_below, IsProduct, IsBatch, batch_after, left_after, right_after}

@@ -9,7 +9,7 @@ use Rattle.mask_circuit.specs.declared.gates.Gate.{Gate}
 use Rattle.mask_circuit.specs.declared.gates.Gate.TheVariants.{Zero, One, Xor, Not, And, Ref}
 use Rattle.mask_circuit.specs.Netlist.{Netlist, value_count, product_count, is_product}
 use Rattle.mask_circuit.specs.Acceptance.{gate_at}
-use Rattle.mask_laws.proofs.GateAt.{gate_at_input, gate_at_gate}
+use Rattle.mask_circuit.proofs.GateAt.{gate_at_input, gate_at_gate}
 use Rattle.mask_check.specs.Batches.{product_at, products_below}
 use Rattle.mask_check.specs.Costs.{most_steps}
 

@@ -8,7 +8,7 @@ use Rattle.mask_circuit.specs.declared.gates.Gate.{Gate}
 use Rattle.mask_circuit.specs.declared.gates.Gate.TheVariants.{Zero, One, Xor, Not, And, Ref}
 use Rattle.mask_circuit.specs.Netlist.{Netlist, IsCircuit, value_count}
 use Rattle.mask_circuit.specs.Acceptance.{gate_at, Uses, output_at, IsFence}
-use Rattle.mask_laws.proofs.GateAt.{gate_at_within}
+use Rattle.mask_circuit.proofs.GateAt.{gate_at_within}
 use Rattle.mask_check.specs.Fencing.{IsFlagged, with_flag, with_operands, FlagsOperands, FencesBefore, IsRefresh}
 use Rattle.mask_check.specs.Marks.{HasOperandsBelow}
 use Rattle.mask_check.proofs.Passing.{operands_below}

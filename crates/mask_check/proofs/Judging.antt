@@ -4,7 +4,7 @@ use Rattle.std.proofs.lemmas.Bool.{cases_lt}
 use Rattle.mask_circuit.specs.declared.gates.Gate.TheVariants.{And}
 use Rattle.mask_circuit.specs.Netlist.{Netlist, IsCircuit, value_count}
 use Rattle.mask_circuit.specs.Acceptance.{gate_at, Reaches, IsShared, IsAccepted, IsClash, IsStrong}
-use Rattle.mask_laws.proofs.GateAt.{gate_at_within}
+use Rattle.mask_circuit.proofs.GateAt.{gate_at_within}
 use Rattle.mask_laws.proofs.Gates.{gate_keeps}
 use Rattle.mask_laws.proofs.Simulation.{accepted_is_ni}
 use Rattle.mask_laws.proofs.Strengthening.{strong_is_sni}

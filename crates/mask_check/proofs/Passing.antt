@@ -8,7 +8,7 @@ use Rattle.mask_circuit.specs.declared.gates.Gate.{Gate}
 use Rattle.mask_circuit.specs.declared.gates.Gate.TheVariants.{Zero, One, Xor, Not, And, Ref}
 use Rattle.mask_circuit.specs.Netlist.{Netlist, IsCircuit, AreGates, OperandsBelow, value_count}
 use Rattle.mask_circuit.specs.Acceptance.{gate_at, Reaches, Input, ProductHere, RefreshHere, FromLeft, FromRight, FromNegated}
-use Rattle.mask_laws.proofs.GateAt.{gate_at_input, gate_at_gate, gate_at_operands}
+use Rattle.mask_circuit.proofs.GateAt.{gate_at_input, gate_at_gate, gate_at_operands}
 use Rattle.mask_laws.proofs.Reaching.{source_low}
 use Rattle.mask_check.specs.declared.backward.Meeting.{Meeting}
 use Rattle.mask_check.specs.Marks.{HasBit, IsMarked, IsClearFrom, Meets, HasOperandsBelow, IsSource, IsLowestMeeting, passed_on}

@@ -1,9 +1,11 @@
 -- A circuit expanded into n shares of each value: its wires, its output shares, and the fresh bits that it draws.
-use Rattle.std.specs.Prelude.{ℕ, suc, cond, ◌==◌, List, [], ◌∷◌, ◌++◌, map, length, take, drop, sum_by}
+use Rattle.std.specs.Prelude.{ℕ, zero, suc, ◌+◌, cond, ◌==◌, List, [], ◌∷◌, ◌++◌, map, length, take, drop, sum_by, Some, None}
+use Rattle.std.specs.declared.option.Option.{Option}
 use Rattle.mask_circuit.specs.declared.gates.Gate.{Gate}
 use Rattle.mask_circuit.specs.Netlist.{Netlist}
 use Rattle.mask_circuit.specs.Ring.{Ring}
-use Rattle.mask_circuit.specs.Wires.{Wire, Share, Shares, each, joined, gate_names, gate_draws, gate_wire, share_wire}
+use Rattle.mask_circuit.specs.Wires.{Wire, Share, Shares, each, joined, share_names, gate_names, gate_draws, gate_wire, share_wire}
+use Rattle.mask_circuit.specs.Acceptance.{gate_at}
 
 -- What the wires of each value carry, by value number and name.
 abbrev pub Trace : Type 0 → Type 0
@@ -51,6 +53,20 @@ names c N = joined (λ v. each (λ i. (v, Share i)) N) c.inputs ++ names_from N 
 -- how many wires there are
 abbrev pub wire_count : Netlist → ℕ → ℕ
 wire_count c N = length (names c N)
+
+-- the names of the wires of a value with this gate; an input has its shares
+abbrev pub names_by : ℕ → Option Gate → List Wire
+names_by N None = share_names N
+names_by N (Some g) = gate_names N g
+
+-- the names of the wires of value v: the place in this list is a wire's local number there
+abbrev pub names_of : Netlist → ℕ → ℕ → List Wire
+names_of c N v = names_by N (gate_at c v)
+
+-- how many wires the values before v have
+abbrev pub wires_before : Netlist → ℕ → ℕ → ℕ
+wires_before c N zero = 0
+wires_before c N (suc v) = wires_before c N v + length (names_of c N v)
 
 -- what all wires carry, by wire number
 abbrev pub wires : {X : Type 0} → Ring X → Netlist → ℕ → (ℕ → Shares X) → List X → List X

@@ -11,6 +11,7 @@ mod labelled;
 mod limits;
 mod queries;
 mod steps;
+mod wires;
 
 pub use builders::{Builder, CircuitError};
 pub use circuits::Circuit;
@@ -19,6 +20,7 @@ pub use groups::Group;
 pub use labelled::{Labelled, MAX_GROUPS};
 pub use limits::{MAX_OUTPUTS, MAX_VALUES};
 pub use steps::Steps;
+pub use wires::WirePlace;
 
 #[cfg(test)]
 mod tests;

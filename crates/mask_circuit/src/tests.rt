@@ -37,3 +37,23 @@ fn answers_about_a_circuit(rt: HostRuntime) -> Result<(), Fail> {
     }
     Ok(())
 }
+
+// A product whose second operand is refreshed, on two shares: 4 wires of the inputs, 3 of the refresh, and 9 of the
+// product.
+#[test]
+fn numbers_the_wires(rt: HostRuntime) -> Result<(), Fail> {
+    let mut builder = Builder::new(rt.alloc(), 2)?;
+    if builder.values() == 2 {
+        let fresh = builder.refresh(1)?;
+        let product = builder.and(0, fresh)?;
+        builder.out(product)?;
+    }
+    let circuit = builder.finish();
+    assert_eq!(rt; circuit.wire_count(1), 16);
+    if circuit.wire_count(1) == 16 {
+        assert!(rt; circuit.wire_place(1, 3) == WirePlace { value: 1, part: 1 });
+        assert!(rt; circuit.wire_place(1, 6) == WirePlace { value: 2, part: 2 });
+        assert!(rt; circuit.wire_place(1, 8) == WirePlace { value: 3, part: 1 });
+    }
+    Ok(())
+}

@@ -5,8 +5,8 @@ use Rattle.std.proofs.lemmas.Bool.{cases_lt}
 use Rattle.mask_circuit.specs.Ring.{Ring}
 use Rattle.mask_circuit.specs.Wires.{Pair, each, joined, row_pairs, pairs, fresh_of}
 use Rattle.mask_laws.specs.Names.{IsPair, pairs_before, pair_number}
-use Rattle.mask_laws.proofs.Places.{length-each}
-use Rattle.mask_laws.proofs.Members.{below_cases}
+use Rattle.mask_circuit.proofs.Places.{length-each}
+use Rattle.mask_circuit.proofs.Places.{below_cases}
 
 -- whether the pair (i, j) stands in a list
 abbrev pub has_pair : ℕ → ℕ → List Pair → Bool

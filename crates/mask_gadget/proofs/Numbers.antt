@@ -5,7 +5,7 @@ use Rattle.mask_circuit.specs.Wires.{pairs}
 use Rattle.mask_laws.specs.Names.{pairs_before, pair_number, pair_count}
 use Rattle.mask_laws.proofs.Counting.{twice_before, half, pairs_before-all}
 use Rattle.mask_laws.proofs.LocalNumbers.{pairs_in_order}
-use Rattle.mask_laws.proofs.Members.{below_cases}
+use Rattle.mask_circuit.proofs.Places.{below_cases}
 
 -- the number of a pair, in closed form
 pub pair_number-closed : (n i j : ℕ) → i < j → j < n → i * (2 * n - i - 1) / 2 + (j - i - 1) ≡ pair_number n i j

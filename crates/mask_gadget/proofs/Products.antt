@@ -7,7 +7,7 @@ use Rattle.mask_circuit.specs.Ring.{words}
 use Rattle.mask_circuit.specs.Wires.{Wire, Share, Product, Fresh, Right, Pair, Shares, each, joined, pairs, other, row_wire, row_sum, cross, product_wire, product_names}
 use Rattle.mask_laws.specs.Names.{pair_number, pair_count}
 use Rattle.mask_laws.proofs.LocalNumbers.{product_in_order}
-use Rattle.mask_laws.proofs.Places.{length-each, length-joined, length-threes}
+use Rattle.mask_circuit.proofs.Places.{length-each, length-joined, length-threes}
 use Rattle.mask_gadget.specs.Gadgets.{pair_names, pair_row, cross_place}
 use Rattle.mask_gadget.proofs.Made.{map-each, map-joined, each-same, joined-same, joined-more}
 use Rattle.mask_gadget.proofs.Numbers.{length-pairs, pair_number-lt}

@@ -4,7 +4,7 @@ use Rattle.std.proofs.lemmas.Bool.{lt-ltb, le-ltb}
 use Rattle.std.proofs.lemmas.List.{get_or-set_same, get_or-set_other, length-set}
 use Rattle.mask_circuit.specs.Ring.{words}
 use Rattle.mask_circuit.specs.Wires.{Wire, Share, Fresh, Shares, row_wire, fresh_between, refresh_wire, joined, refresh_names}
-use Rattle.mask_laws.proofs.Members.{below_cases}
+use Rattle.mask_circuit.proofs.Places.{below_cases}
 use Rattle.mask_gadget.proofs.Pairs.{by_rows}
 use Rattle.mask_gadget.proofs.Rows.{row_before, row_before-own, row_before-more, row_wire-sum}
 

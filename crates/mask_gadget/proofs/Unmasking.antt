@@ -5,7 +5,7 @@ use Rattle.mask_circuit.specs.declared.gates.Gate.TheVariants.{Xor, Not, And, Re
 use Rattle.mask_circuit.specs.Value.{xor}
 use Rattle.mask_circuit.specs.Ring.{bits}
 use Rattle.mask_circuit.specs.Wires.{Share, each, gate_out, pairs, fresh_of}
-use Rattle.mask_laws.proofs.Places.{length-each}
+use Rattle.mask_circuit.proofs.Places.{length-each}
 use Rattle.mask_shares.specs.Sharing.{listed, all_listed, unmasked}
 use Rattle.mask_shares.proofs.Lists.{get_or-each}
 use Rattle.mask_gadget.proofs.Made.{map-each}

@@ -9,8 +9,7 @@ use Rattle.mask_circuit.specs.Netlist.{Netlist, IsCircuit, AreGates, OperandsBel
 use Rattle.mask_circuit.specs.Acceptance.{gate_at, Reaches, IsShared, IsAccepted, IsClash}
 use Rattle.mask_circuit.specs.Shift.{least}
 use Rattle.mask_laws.specs.Clashes.{Table, reach, shared_source, or_later, clash_from, clash, ClashIsUnique, ClashRefutes, ClashDecides}
-use Rattle.mask_laws.proofs.GateAt.{gate_at_within, gate_at_operands}
-use Rattle.mask_laws.proofs.Confining.{AreGatesAt, AreGatesAt-all}
+use Rattle.mask_circuit.proofs.GateAt.{gate_at_within, gate_at_operands, AreGatesAt, AreGatesAt-all}
 use Rattle.mask_laws.proofs.Reaching.{source_low, IsTable, table_is}
 
 -- a clash is a product whose operands share a source

@@ -2,7 +2,7 @@
 --
 -- What a probe demands of its gate's operands is one share of each; from there demands go down through xor and not
 -- alone, to values that reach fewer sources. The operands of a product reach no source in common.
-use Rattle.std.proofs.Common.{◌≡◌, ℕ, suc, ◌+◌, ◌-◌, ◌<◌, Bool, true, false, cond, not, ◌&&◌, ◌||◌, ◌==◌, nat_lt, ◌⊎◌, inl, inr, ⊎_elim, List, [], ◌∷◌, length, slice_get, Option, Some, None, refl, ap, sym, subst, ◌∙◌, arith, le-ltb, eqb-true, add-zero}
+use Rattle.std.proofs.Common.{◌≡◌, ℕ, suc, Bool, true, false, cond, not, ◌&&◌, ◌||◌, ◌==◌, ◌⊎◌, inl, inr, ⊎_elim, List, [], ◌∷◌, Option, Some, None, refl, ap, sym, subst, ◌∙◌, eqb-true}
 use Rattle.std.specs.List.{cons_option, list_any}
 use Rattle.std.proofs.lemmas.Bool.{and_parts, and_right, or_cases, false≢true}
 use Rattle.mask_circuit.specs.declared.gates.Gate.{Gate}
@@ -13,31 +13,10 @@ use Rattle.mask_circuit.specs.Expansion.{Place}
 use Rattle.mask_circuit.specs.Probing.{same_wire}
 use Rattle.mask_circuit.specs.Need.{ShareSet, is_share, inner_probes, probed_shares, is_of_row, demands_left, demands_right, left_need, is_update_of, refresh_need}
 use Rattle.mask_circuit.specs.Acceptance.{gate_at, Reaches, FromLeft, FromRight, FromNegated, IsAccepted}
+use Rattle.mask_circuit.proofs.GateAt.{AreGatesAt}
 use Rattle.mask_laws.proofs.Sets.{list_any-or}
 use Rattle.mask_laws.proofs.Needs.{row_of, left_owner, right_of, right_owner, update_is}
 use Rattle.mask_laws.proofs.Demands.{right_part, demand_part, need_part}
-
--- these are the circuit's gates from value n on
-abbrev pub AreGatesAt : Netlist → List Gate → ℕ → Type 0
-AreGatesAt c [] n = Unit {0}
-AreGatesAt c (g ∷ gs) n = (gate_at c n ≡ Some g) × AreGatesAt c gs (suc n)
-
-AreGatesAt-from : (c : Netlist) (gs : List Gate) (n : ℕ) → ((k : ℕ) → k < length gs → gate_at c (n + k) ≡ slice_get gs k) → AreGatesAt c gs n
-AreGatesAt-from c [] n h = tt
-AreGatesAt-from c (g ∷ gs) n h = (
-  ap (gate_at c) (sym (add-zero n)) ∙ h 0 (omega arith),
-  AreGatesAt-from c gs (suc n) (λ k l. let e : suc n + k ≡ n + suc k = omega arith in ap (gate_at c) e ∙ h (suc k) (omega arith)),
-)
-
--- all gates of a circuit stand from the inputs on
-pub AreGatesAt-all : (c : Netlist) → AreGatesAt c c.gates c.inputs
-AreGatesAt-all c = AreGatesAt-from c c.gates c.inputs (λ k l. gate k)
-  where
-    gate : (k : ℕ) → gate_at c (c.inputs + k) ≡ slice_get c.gates k
-    gate k =
-        let above : nat_lt (c.inputs + k) c.inputs ≡ false = le-ltb (c.inputs + k) c.inputs (omega arith) in
-        let place : c.inputs + k - c.inputs ≡ k = omega arith in
-        ap (λ (b : Bool). cond b None (slice_get c.gates (c.inputs + k - c.inputs))) above ∙ ap (slice_get c.gates) place
 
 -- A relation of values and shares that holds of what the probes L demand at their own gates, and goes down through xor
 -- and not.

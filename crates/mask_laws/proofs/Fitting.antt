@@ -10,11 +10,12 @@ use Rattle.mask_circuit.specs.Expansion.{Place}
 use Rattle.mask_circuit.specs.Probing.{size, same_wire}
 use Rattle.mask_circuit.specs.Need.{ShareSet, is_share, inner_probes, need_from}
 use Rattle.mask_circuit.specs.Acceptance.{gate_at, Reaches, ProductHere, RefreshHere, IsAccepted}
+use Rattle.mask_circuit.proofs.GateAt.{AreGatesAt}
 use Rattle.mask_laws.specs.Circuits.{FitsAt, FitsFrom}
 use Rattle.mask_laws.proofs.Sets.{size-mono, size-none, size-or}
 use Rattle.mask_laws.proofs.Probes.{is_inner_at}
 use Rattle.mask_laws.proofs.Demands.{demand_part, demand_part-below, need_part, touched, need_from-part, need_part-append, inner_probes-append}
-use Rattle.mask_laws.proofs.Confining.{AreGatesAt, IsConfined, at_most_one, probe_confined, same_wire-inner}
+use Rattle.mask_laws.proofs.Confining.{IsConfined, at_most_one, probe_confined, same_wire-inner}
 
 -- a set with at most one element
 size-at_most_one : (n : ℕ) (f : ℕ → Bool) → ((i j : ℕ) → f i ≡ true → f j ≡ true → i ≡ j) → size n f ≤ 1

@@ -6,7 +6,7 @@ use Rattle.mask_circuit.specs.Wires.{Wire}
 use Rattle.mask_circuit.specs.Probing.{size, same_wire}
 use Rattle.mask_circuit.specs.Need.{ShareSet}
 use Rattle.mask_circuit.specs.Shift.{is_probed, wire_between, least, partner, is_some_of}
-use Rattle.mask_laws.proofs.Members.{below_cases}
+use Rattle.mask_circuit.proofs.Places.{below_cases}
 use Rattle.mask_laws.proofs.Sets.{size-or, size-all, size-owned, list_any-or}
 
 -- THE LEAST NUMBER THAT PASSES

@@ -10,7 +10,6 @@ pub mod Fitting
 pub mod FittingExamples
 pub mod Flips
 pub mod FreshBits
-pub mod GateAt
 pub mod GateExamples
 pub mod Gates
 pub mod Keeping
@@ -20,7 +19,6 @@ pub mod Names
 pub mod Needs
 pub mod Numbering
 pub mod OutputShares
-pub mod Places
 pub mod Probes
 pub mod Products
 pub mod Reaching

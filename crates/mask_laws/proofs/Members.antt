@@ -1,8 +1,8 @@
 -- What is in a list that is made by number, joined from pieces or mapped to pieces.
 use Rattle.std.proofs.Common.{◌≡◌, ℕ, zero, suc, ◌<◌, ◌⊎◌, inl, inr, List, [], ◌∷◌, ◌++◌, length, Contains, flat_map, slice_index_or, refl, sym, subst, arith}
-use Rattle.std.proofs.lemmas.Bool.{cases_lt}
 use Rattle.std.proofs.lemmas.List.Elements.{Contains-push, Contains-push_cases, Contains-append_left, Contains-append_right, Contains-append_cases}
 use Rattle.mask_circuit.specs.Wires.{each, joined}
+use Rattle.mask_circuit.proofs.Places.{below_cases}
 
 pub none_in_nil : {A : Type 0} (x : A) → Contains [] x → ⊥
 none_in_nil x h = omega (arith, h.1)
@@ -30,10 +30,6 @@ second_of_three a b c = (1, omega arith, refl)
 
 pub third_of_three : {A : Type 0} (a b c : A) → Contains (a ∷ b ∷ c ∷ []) c
 third_of_three a b c = (2, omega arith, refl)
-
--- below n + 1 is below n or n
-pub below_cases : (i n : ℕ) → i < suc n → (i < n) ⊎ (i ≡ n)
-below_cases i n lt = elim (cases_lt i n) [ inl l ↦ inl l | inr g ↦ inr (omega arith) ]
 
 -- an element of f 0, .., f (n - 1) is some f i
 pub each_place : {A : Type 0} (f : ℕ → A) (n : ℕ) (x : A) → Contains (each f n) x → (i : ℕ) × (i < n) × (f i ≡ x)

@@ -7,8 +7,7 @@ use Rattle.mask_circuit.specs.declared.gates.Gate.TheVariants.{Zero, One, Xor, N
 use Rattle.mask_circuit.specs.Netlist.{Netlist, IsCircuit, AreGates, OperandsBelow, value_count}
 use Rattle.mask_circuit.specs.Acceptance.{gate_at, Reaches, Input, ProductHere, RefreshHere, FromLeft, FromRight, FromNegated, Uses}
 use Rattle.mask_laws.specs.Clashes.{Table, gate_reach, reach_from, reach, TidyIsAccepted, TableReaches}
-use Rattle.mask_laws.proofs.GateAt.{gate_at_input, gate_at_within, gate_at_operands}
-use Rattle.mask_laws.proofs.Confining.{AreGatesAt, AreGatesAt-all}
+use Rattle.mask_circuit.proofs.GateAt.{gate_at_input, gate_at_within, gate_at_operands, AreGatesAt, AreGatesAt-all}
 
 -- what reaching s says of the gate g of value n
 abbrev pub Onward : Netlist → ℕ → ℕ → Gate → Type 0

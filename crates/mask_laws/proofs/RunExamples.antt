@@ -11,7 +11,7 @@ use Rattle.mask_circuit.specs.Acceptance.{gate_at, Uses, IsAccepted, IsFenced}
 use Rattle.mask_laws.specs.Clashes.{reach, clash}
 use Rattle.mask_laws.specs.Runs.{Call, Variable, Output, source_at, IsPublic, IsThere, IsStrongRun, run_draws, run_seen, run_hits, run_need}
 use Rattle.mask_laws.proofs.Clashing.{clash_decides}
-use Rattle.mask_laws.proofs.GateAt.{gate_at_within}
+use Rattle.mask_circuit.proofs.GateAt.{gate_at_within}
 
 -- the shares of each variable, from a list of lists
 listed : List (List Bool) → ℕ → Shares Bool

@@ -5,9 +5,9 @@ use Rattle.mask_circuit.specs.Netlist.{Netlist, AreGates}
 use Rattle.mask_circuit.specs.Probing.{HasAtMost}
 use Rattle.mask_circuit.specs.Need.{need, probes_at}
 use Rattle.mask_circuit.specs.Acceptance.{Input, IsAccepted}
+use Rattle.mask_circuit.proofs.GateAt.{AreGatesAt-all}
 use Rattle.mask_laws.specs.Gadgets.{GateKeeps}
 use Rattle.mask_laws.specs.Circuits.{AcceptedFits, AcceptedIsNI, AcceptedIsSimulated, AcceptedNeedsFew}
-use Rattle.mask_laws.proofs.Confining.{AreGatesAt-all}
 use Rattle.mask_laws.proofs.Fitting.{FitsFrom-accepted, source_count}
 use Rattle.mask_laws.proofs.Seen.{fitting_is_simulated}
 

@@ -18,9 +18,8 @@ use Rattle.mask_laws.specs.Circuits.{FitsAt, FitsFrom, Fits}
 use Rattle.mask_laws.specs.Strong.{AreAllowed, StrongNeed, StrongIsSNI}
 use Rattle.mask_laws.proofs.Sets.{size-mono, size-or}
 use Rattle.mask_laws.proofs.Demands.{inner_probes-append}
-use Rattle.mask_laws.proofs.Confining.{AreGatesAt, AreGatesAt-all}
 use Rattle.mask_laws.proofs.Fitting.{source_count}
-use Rattle.mask_laws.proofs.GateAt.{gate_at_input}
+use Rattle.mask_circuit.proofs.GateAt.{gate_at_input, AreGatesAt, AreGatesAt-all}
 use Rattle.mask_laws.proofs.Gates.{gate_keeps}
 use Rattle.mask_laws.proofs.Seen.{fitting_is_simulated}
 use Rattle.mask_laws.proofs.Simulation.{accepted_needs_few}

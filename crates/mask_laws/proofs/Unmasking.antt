@@ -14,7 +14,7 @@ use Rattle.mask_laws.specs.Sharing.{xor_all, unshared_inputs, ValuesUnmask, Outp
 use Rattle.mask_laws.proofs.Bits.{xor-false, xor_self, xor_comm}
 use Rattle.mask_laws.proofs.BitSums.{total, total-xor, total_same, total_none, xor_all-each, row_sum-total, square}
 use Rattle.mask_laws.proofs.Traces.{put-other}
-use Rattle.mask_laws.proofs.Places.{length-each, slice_get-each}
+use Rattle.mask_circuit.proofs.Places.{length-each, slice_get-each}
 
 -- GATES
 

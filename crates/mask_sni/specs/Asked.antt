@@ -1,7 +1,8 @@
 -- What is asked about a product or a refresh, and how the code's wires are those of the definitions.
-use Rattle.std.specs.Prelude.{◌≡◌, ℕ, ◌+◌, ◌*◌, ◌<◌, ◌==◌, Bool, false, cond, List, [], ◌∷◌, length, map, All, slice_index_or}
+use Rattle.std.specs.Prelude.{◌≡◌, ℕ, ◌+◌, ◌*◌, ◌<◌, ◌==◌, Bool, false, cond, List, [], ◌∷◌, length, map, All, slice_index_or, Some, None}
 use Rattle.std.specs.List.{filter, list_any}
 use Rattle.std.specs.Int.{bit_at}
+use Rattle.std.specs.declared.option.Option.{Option}
 use Rattle.mask_circuit.specs.Wires.{Wire, Share, Product, Fresh, Left, Right, Partial, Shares, each}
 use Rattle.mask_circuit.specs.Need.{ShareSet, is_share}
 use Rattle.mask_circuit.specs.Shift.{Sides}
@@ -16,6 +17,15 @@ named (FreshBit i j) = Fresh i j
 named (LeftSum i j) = Left i j
 named (RightSum i j) = Right i j
 named (RowSum i k) = Partial i k
+
+-- the number of the output share that a wire is, where it is one
+abbrev pub share_number : Wire → Option ℕ
+share_number (Share i) = Some i
+share_number (Product i j) = None
+share_number (Fresh i j) = None
+share_number (Left i j) = None
+share_number (Right i j) = None
+share_number (Partial i k) = None
 
 -- the wires that these local numbers have, where names are the gate's wires
 abbrev pub wires_at : List Wire → List ℕ → List Wire

@@ -7,11 +7,13 @@
 use arrayvec::ArrayVec;
 
 mod needs;
+mod outputs;
 mod products;
 mod shifts;
 mod wires;
 
 pub use needs::{and_needs, ref_needs};
+pub use outputs::{and_share, ref_share};
 pub use products::and_shift;
 pub use shifts::ref_shift;
 

@@ -1,4 +1,4 @@
-use super::{Places, Probes, and_needs, and_shift, ref_needs, ref_shift};
+use super::{Places, Probes, and_needs, and_share, and_shift, ref_needs, ref_share, ref_shift};
 use std::test::Fail;
 
 // A product of three shares: wire 18 is the first partial sum of share 0, and wire 10 is v_01.
@@ -52,5 +52,16 @@ fn a_probe_behind_the_fresh_bit_needs_nothing(rt: HostRuntime) -> Result<(), Fai
     assert!(rt; left.is_empty());
     assert!(rt; right.is_empty());
     assert_eq!(rt; and_shift::<3>(&probes, &Places::new(), 1, 2, 0, 0), 1);
+    Ok(())
+}
+
+// On three shares wire 19 of a product is the last partial sum of share 0, and wire 4 of a refresh the last update of
+// share 0.
+#[test]
+fn last_wires_are_output_shares(rt: HostRuntime) -> Result<(), Fail> {
+    assert_eq!(rt; and_share::<3>(19), Some(0));
+    assert!(rt; and_share::<3>(18).is_none());
+    assert_eq!(rt; ref_share::<3>(4), Some(0));
+    assert!(rt; ref_share::<3>(3).is_none());
     Ok(())
 }

@@ -1,7 +1,11 @@
 -- Where elements stand in a list that is made by number, joined from pieces or mapped to pieces of three.
 use Rattle.std.proofs.Common.{◌≡◌, ℕ, zero, suc, ◌+◌, ◌*◌, ◌<◌, ◌⊎◌, inl, inr, List, [], ◌∷◌, ◌++◌, length, flat_map, slice_get, Some, refl, sym, ap, subst, arith, length-append, zero-add, suc-add}
+use Rattle.std.proofs.lemmas.Bool.{cases_lt}
 use Rattle.mask_circuit.specs.Wires.{each, joined}
-use Rattle.mask_laws.proofs.Members.{below_cases}
+
+-- below n + 1 is below n or n
+pub below_cases : (i n : ℕ) → i < suc n → (i < n) ⊎ (i ≡ n)
+below_cases i n lt = elim (cases_lt i n) [ inl l ↦ inl l | inr g ↦ inr (omega arith) ]
 
 -- a place in the front of two lists, and one in the back
 pub slice_get-append_front : {A : Type 0} (xs ys : List A) (k : ℕ) (x : A) → slice_get xs k ≡ Some x → slice_get (xs ++ ys) k ≡ Some x

@@ -1,5 +1,5 @@
 -- The gate that makes a value.
-use Rattle.std.proofs.Common.{◌≡◌, ℕ, zero, suc, ◌+◌, ◌-◌, ◌<◌, ◌≤◌, ◌⊎◌, inl, inr, List, [], ◌∷◌, slice_get, Some, None, refl, ap, sym, ◌∙◌, subst, arith}
+use Rattle.std.proofs.Common.{◌≡◌, ℕ, zero, suc, ◌+◌, ◌-◌, ◌<◌, ◌≤◌, ◌⊎◌, inl, inr, List, [], ◌∷◌, slice_get, Some, None, refl, ap, sym, ◌∙◌, subst, arith, add-zero, length}
 use Rattle.std.proofs.lemmas.Bool.{lt-ltb, le-ltb, cases_lt}
 use Rattle.std.proofs.lemmas.Option.{none-some, same_Some, slice_get_within}
 use Rattle.mask_circuit.specs.declared.gates.Gate.{Gate}
@@ -43,3 +43,19 @@ gate_at_operands c v g are is =
     let e : v ≡ c.inputs + (v - c.inputs) = omega (arith, within.0) in
     subst (λ (m : ℕ). OperandsBelow m g) (sym e)
     (operands_of c.gates c.inputs (v - c.inputs) g are (sym (ap (gate_at c) e ∙ gate_at_gate c (v - c.inputs)) ∙ is))
+
+-- these are the circuit's gates from value n on
+abbrev pub AreGatesAt : Netlist → List Gate → ℕ → Type 0
+AreGatesAt c [] n = Unit {0}
+AreGatesAt c (g ∷ gs) n = (gate_at c n ≡ Some g) × AreGatesAt c gs (suc n)
+
+AreGatesAt-from : (c : Netlist) (gs : List Gate) (n : ℕ) → ((k : ℕ) → k < length gs → gate_at c (n + k) ≡ slice_get gs k) → AreGatesAt c gs n
+AreGatesAt-from c [] n h = tt
+AreGatesAt-from c (g ∷ gs) n h = (
+  ap (gate_at c) (sym (add-zero n)) ∙ h 0 (omega arith),
+  AreGatesAt-from c gs (suc n) (λ k l. let e : suc n + k ≡ n + suc k = omega arith in ap (gate_at c) e ∙ h (suc k) (omega arith)),
+)
+
+-- all gates of a circuit stand from the inputs on
+pub AreGatesAt-all : (c : Netlist) → AreGatesAt c c.gates c.inputs
+AreGatesAt-all c = AreGatesAt-from c c.gates c.inputs (λ k l. gate_at_gate c k)

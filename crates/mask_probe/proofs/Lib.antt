@@ -1,0 +1,4 @@
+pub mod Demanding
+pub mod Locating
+pub mod OwnProbes
+pub mod ShareSets
