@@ -3,11 +3,13 @@ use Rattle.std.proofs.Common.{◌≡◌, ℕ, zero, suc, ◌+◌, ◌-◌, ◌*�
 use Rattle.std.proofs.lemmas.List.{take_more, take-take, drop-take, drop-drop, get_or-drop, take-map, drop-map}
 use Rattle.std.proofs.Math.Nat.{mul-le-mul_left}
 use Rattle.mask_circuit.specs.Value.{xor}
-use Rattle.mask_circuit.specs.Ring.{Ring, bits}
+use Rattle.mask_bits.specs.Reading.{bit}
+use Rattle.mask_bits.specs.Lanes.{lane}
+use Rattle.mask_circuit.specs.Ring.{Ring, bits, words}
 use Rattle.mask_laws.specs.Sharing.{xor_all}
 use Rattle.mask_laws.proofs.Bits.{xor-false, xor_assoc, xor_self}
 use Rattle.mask_shares.specs.Sharing.{shared, all_shared, unmasked}
-use Rattle.mask_gadget.proofs.Lanes.{Keeps}
+use Rattle.mask_gadget.proofs.Lanes.{Keeps, keeps_lane}
 use Rattle.mask_tape.specs.Drawn.{Drawn, ahead}
 use Rattle.mask_eval.proofs.LaneRuns.{fold_from}
 
@@ -34,6 +36,16 @@ module _ {X Y : Type 0} (R : Ring X) (S : Ring Y) (h : X → Y) (keeps : Keeps R
       ap₂ (λ (s : List Y) (ss : List (List Y)). s ∷ ss)
       (shared-keeps x (take d coins) ∙ ap (shared S (h x)) (sym (take-map h d coins)))
       (all_shared-keeps d xs (drop d coins) ∙ ap (all_shared S d (map h xs)) (sym (drop-map h d coins)))
+
+-- so in each lane the shares of words are those of the lane's bits
+pub all_shared_in_lane : (l d : ℕ) (ws coins : List ℕ) → map (lane l) (all_shared words d ws coins) ≡ all_shared bits d (lane l ws) (lane l coins)
+all_shared_in_lane l d ws coins = all_shared-keeps words bits (bit l) (keeps_lane l) d ws coins
+
+-- and the word that shares stand for has in each lane the bit that the lane's shares stand for
+pub unmasked_in_lane : (l : ℕ) (shares : List ℕ) → bit l (unmasked words shares) ≡ unmasked bits (lane l shares)
+unmasked_in_lane l shares =
+    fold-keeps words bits (bit l) (keeps_lane l) 0 shares
+    ∙ ap (λ (b : Bool). fold xor b (lane l shares)) (keeps_lane l).nought
 
 -- WHAT SHARES STAND FOR
 

@@ -1,6 +1,10 @@
-pub mod Counting
-pub mod Evaluating
 pub mod Judging
-pub mod Strength
+pub mod Spelling
 pub mod TextLaws
-pub mod Told
+pub mod Printing
+pub mod LaneZero
+pub mod Telling
+pub mod Counts
+pub mod Inputs
+pub mod Reports
+pub mod Probed

@@ -1,16 +1,13 @@
 -- What `check` promises, status by status; text is what the input had left.
-use Rattle.std.specs.Prelude.{◌≡◌, ℕ, ◌<◌, Bool, true, List, [], ◌∷◌, ◌++◌, length, codes, decimal, if◌then◌else◌}
+use Rattle.std.specs.Prelude.{◌≡◌, ℕ, Bool, true, List, [], ◌∷◌, ◌++◌, codes, decimal, if◌then◌else◌}
 use Rattle.std.specs.declared.option.Option.{Option}
-use Rattle.std.specs.Io.KnownBytes.{Appends}
-use Rattle.mask_io.specs.Outside.{AppendsProperPrefix}
 use Rattle.mask_circuit.specs.Netlist.{Netlist, value_count, product_count, refresh_count}
 use Rattle.mask_circuit.specs.Acceptance.{IsAccepted, IsClash, IsStrong}
 use Rattle.mask_check.specs.Security.{IsNIAtEachOrder}
-use Rattle.mask_text.specs.declared.read.TheConstants.{MAX_TEXT}
-use Rattle.mask_text.specs.declared.errors.Reason.{Reason}
 use Rattle.mask_run.specs.declared.status.Status.{Status}
-use Rattle.mask_run.specs.declared.status.Status.TheVariants.{Done, Refused, BadWords, BadText, TooLong, ReadFault, TapeFault, WriteFault, NoMemory}
-use Rattle.mask_run.specs.Promise.{HasFault, OneOf, Stands}
+use Rattle.mask_run.specs.declared.status.Status.TheVariants.{Done, Refused, ReadFault, WriteFault, NoMemory}
+use Rattle.mask_run.specs.Texts.{Stands, RefusesText, RefusesWhereDue, OneOf}
+use Rattle.mask_run.specs.Outside.{Writes}
 
 -- the line for these counts
 abbrev pub check_line : ℕ → ℕ → ℕ → Bool → List ℕ
@@ -32,34 +29,23 @@ pub record IsJudged (c : Netlist) (line : List ℕ) : Type 0 where
   pub secure : IsNIAtEachOrder c
   pub says : SaysStrong c (check_line (value_count c) (product_count c) (refresh_count c)) line
 
--- why a circuit gets no line
-abbrev pub RefusesCircuit : Netlist → Status → Type 0
-RefusesCircuit c Done = ⊥
-RefusesCircuit c (Refused product source) = IsClash c product source
-RefusesCircuit c (BadWords place) = ⊥
-RefusesCircuit c (BadText line reason) = ⊥
-RefusesCircuit c (TooLong limit) = ⊥
-RefusesCircuit c ReadFault = ⊥
-RefusesCircuit c TapeFault = ⊥
-RefusesCircuit c WriteFault = ⊥
-RefusesCircuit c NoMemory = Unit {0}
+-- the line of a circuit for which the text stands was written, or a part of it
+pub record PrintsVerdict (text : List ℕ) (before now : Option (List ℕ)) (status : Status) : Type 0 where
+  pub circuit : Netlist
+  pub line : List ℕ
+  pub stands : Stands text circuit
+  pub judged : IsJudged circuit line
+  pub written : Writes line before now status
 
 abbrev pub CheckEnds : List ℕ → Option (List ℕ) → Option (List ℕ) → Status → Type 0
-CheckEnds text before now Done = (c : Netlist) × (line : List ℕ) × Stands text c × IsJudged c line × Appends before now line
+CheckEnds text before now Done = PrintsVerdict text before now Done
+CheckEnds text before now WriteFault = PrintsVerdict text before now WriteFault
 CheckEnds text before now (Refused product source) = (c : Netlist) × Stands text c × IsClash c product source
-CheckEnds text before now (BadWords place) = ⊥
-CheckEnds text before now (BadText line reason) = HasFault text line reason
-CheckEnds text before now (TooLong limit) = (limit ≡ MAX_TEXT) × (MAX_TEXT < length text)
-CheckEnds text before now ReadFault = Unit {0}
-CheckEnds text before now TapeFault = ⊥
-CheckEnds text before now WriteFault = (c : Netlist) × (line : List ℕ) × Stands text c × IsJudged c line × AppendsProperPrefix before now line
-CheckEnds text before now NoMemory = Unit {0}
+CheckEnds text before now status = RefusesText text status
 
 -- when each answer comes
 pub record CheckAnswers (text : List ℕ) (status : Status) : Type 0 where
-  pub too_long : MAX_TEXT < length text → OneOf status (TooLong MAX_TEXT ∷ ReadFault ∷ NoMemory ∷ [])
-  pub bad_text : (line : ℕ) (reason : Reason) → HasFault text line reason →
-      OneOf status (BadText line reason ∷ ReadFault ∷ NoMemory ∷ [])
+  pub refuses : RefusesWhereDue text status
   pub clash : (c : Netlist) (product source : ℕ) → Stands text c → IsClash c product source →
       OneOf status (Refused product source ∷ ReadFault ∷ NoMemory ∷ [])
   pub accepted : (c : Netlist) → Stands text c → IsAccepted c → OneOf status (Done ∷ ReadFault ∷ WriteFault ∷ NoMemory ∷ [])

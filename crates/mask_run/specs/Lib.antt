@@ -1,10 +1,10 @@
+pub mod Calls
 pub mod Checking
-pub mod Drawing
-pub mod Finishing
+pub mod Evaluating
 pub mod Hexadecimal
-pub mod Promise
-pub mod Reading
-pub mod Shared
+pub mod Lanes
+pub mod Outside
+pub mod Probing
 pub mod Statuses
+pub mod Texts
 pub mod Upgrading
-pub mod Writing

@@ -3,7 +3,7 @@ use Rattle.std.specs.Prelude.{ℕ, List, ◌++◌, codes, decimal}
 use Rattle.mask_text.specs.declared.errors.Reason.{Reason}
 use Rattle.mask_text.specs.declared.errors.Reason.TheVariants.{BadHeader, BadLine, UnknownValue, NoEnd, AfterEnd, TooManyValues, BadName}
 use Rattle.mask_run.specs.declared.status.Status.{Status}
-use Rattle.mask_run.specs.declared.status.Status.TheVariants.{Done, Refused, BadWords, BadText, TooLong, ReadFault, TapeFault, WriteFault, NoMemory}
+use Rattle.mask_run.specs.declared.status.Status.TheVariants.{Done, Refused, BadWords, BadText, TooLong, ReadFault, TapeFault, WriteFault, BadProbe, NoMemory}
 
 abbrev pub number_of : Status → ℕ
 number_of Done = 0
@@ -14,6 +14,7 @@ number_of (TooLong limit) = 5
 number_of ReadFault = 6
 number_of TapeFault = 8
 number_of WriteFault = 9
+number_of (BadProbe place) = 10
 number_of NoMemory = 11
 
 abbrev pub reason_text : Reason → List ℕ
@@ -34,4 +35,5 @@ text_of (TooLong limit) = codes "too long: limit " ++ decimal limit
 text_of ReadFault = codes "read fault"
 text_of TapeFault = codes "tape fault"
 text_of WriteFault = codes "write fault"
+text_of (BadProbe place) = codes "bad probe: place " ++ decimal place
 text_of NoMemory = codes "no memory"

@@ -1,183 +1,156 @@
-//! The evaluation of a circuit on two shares of each bit (Ishai, Sahai and Wagner 2003).
+//! The evaluation of a circuit on shares of plain bits, in one lane.
 
-ghost use Rattle.std.specs.Prelude.{◌≡◌, ℕ, ◌+◌, ◌<◌, ◌≤◌, ◌∷◌, [], ◌++◌, true, false, List, ◌-◌, length, take, IfOk, IfSome, IsTrue, OnOk, All, sum_by, slice_index_or, count_by, map, ◌&&◌, ◌||◌, if◌then◌else◌};
-ghost use Rattle.mask_circuit.specs.Netlist.{OperandsBelow, AreGates, is_product, is_refresh};
-ghost use Rattle.mask_circuit.specs.Value.{xor, gate_value, value_at, values_from, plain};
-ghost use Rattle.mask_run.specs.Shared.{bit_of, bits_of, coins_of, coin_count};
+ghost use Rattle.std.specs.Prelude.{◌≡◌, ℕ, ◌+◌, ◌-◌, ◌*◌, ◌^◌, ◌<◌, ◌≤◌, [], ◌∷◌, length, map, drop, IfOk, IfErr, OnOk, OnErr};
+ghost use Rattle.mask_io.specs.Outside.{Rose};
+ghost use Rattle.mask_bits.specs.Lanes.{lane};
+ghost use Rattle.mask_circuit.specs.Netlist.{Netlist};
+ghost use Rattle.mask_circuit.specs.Ring.{words};
+ghost use Rattle.mask_circuit.specs.Value.{plain};
+ghost use Rattle.mask_shares.specs.Sharing.{all_shared};
+ghost use Rattle.mask_tape.specs.Drawn.{left};
+ghost use Rattle.mask_tape.specs.declared.tape.TapeError.TheVariants.{Failed, NoMemory};
+ghost use Rattle.mask_eval.specs.Frames.{Fits, input_values};
+ghost use Rattle.mask_eval.specs.Watching.{told_more};
+ghost use Rattle.mask_run.specs.Outside.{bytes_for};
+ghost use Rattle.mask_run.specs.Calls.{eval_bits, eval_call, Evaluates, TellsSecureCalls};
+ghost use Rattle.mask_run.specs.Lanes.{words_of, first_bit};
 
 use mask_bits::Bits;
-use mask_circuit::{Circuit, Gate};
-use std::alloc::{AllocError, Global};
+use mask_check::Admitted;
+use mask_circuit::{Circuit, Steps};
+use mask_eval::{Frame, Watch, eval, share};
+use mask_io::Entropy;
+use mask_shares::Shares;
+use mask_tape::{Coins, Tape, TapeError};
+use std::alloc::Global;
+use std::sync::ledger::Ledger;
 
-/// A bit as two shares, whose exclusive or it is.
-#[derive(Clone, Copy)]
-struct Shared {
-    first: bool,
-    second: bool,
-}
-
-impl Shared {
-    /// The bit, with a random bit for its second share.
-    fn new(bit: bool, coin: bool) -> Shared
-        ensures { bit_of result ≡ bit }
-    {
-        Shared {
-            first: bit ^ coin,
-            second: coin,
-        }
-    }
-
-    /// A bit that all may know.
-    fn public(bit: bool) -> Shared
-        ensures { bit_of result ≡ bit }
-    {
-        Shared {
-            first: bit,
-            second: false,
-        }
-    }
-
-    fn xor(self, other: Shared) -> Shared
-        ensures { bit_of result ≡ xor (bit_of self) (bit_of other) }
-    {
-        Shared {
-            first: self.first ^ other.first,
-            second: self.second ^ other.second,
-        }
-    }
-
-    // The random bit is added before the mixed terms, so that no partial sum shows more than one share.
-    fn and(self, other: Shared, coin: bool) -> Shared
-        ensures { bit_of result ≡ (bit_of self && bit_of other) }
-    {
-        let above = coin;
-        let below = (coin ^ (self.first & other.second)) ^ (self.second & other.first);
-        Shared {
-            first: (self.first & other.first) ^ above,
-            second: (self.second & other.second) ^ below,
-        }
-    }
-
-    fn refresh(self, coin: bool) -> Shared
-        ensures { bit_of result ≡ bit_of self }
-    {
-        Shared {
-            first: self.first ^ coin,
-            second: self.second ^ coin,
-        }
-    }
-}
-
-/// The random bits of an evaluation, in order; each is handed out once.
+/// A circuit that is accepted, and a bit for each of its inputs.
 #[derive(Drop)]
-struct Coins<'a> {
-    bits: &'a Bits,
-    left: usize,
-    ghost in_range: { left ≤ length bits.now },
+pub struct Prepared {
+    pub circuit: Admitted,
+    pub inputs: Bits,
+    ghost just_enough: { length inputs ≡ circuit.inputs },
 }
 
-impl Coins<'_> {
-    fn next(&mut self) -> bool
-        requires { 0 < self.old.left }
-        ensures same { self.new.bits ≡ self.old.bits }
-        ensures spent { self.new.left + 1 ≡ self.old.left }
-        ensures coin { result ≡ slice_index_or self.old.bits.now (length self.old.bits.now - self.old.left) false }
-    {
-        let coin = self.bits.get(self.bits.len() - self.left);
-        self.left -= 1;
-        coin
-    }
-}
-
-// A gate's value from the values before it.
-fn gate_value(gate: Gate, values: &[Shared], coins: &mut Coins<'_>) -> Shared
-    requires known { OperandsBelow (length values.now) gate }
-    requires coin { IsTrue (is_product gate || is_refresh gate) → 0 < coins.old.left }
-    ensures value { bit_of result ≡ gate_value gate (bits_of values.now) }
-    ensures spent { coins.new.left + coins_of gate ≡ coins.old.left }
-{
-    match gate {
-        Gate::Zero => Shared::public(false),
-        Gate::One => Shared::public(true),
-        Gate::Xor(u, v) => values[u as usize].xor(values[v as usize]),
-        Gate::Not(u) => values[u as usize].xor(Shared::public(true)),
-        Gate::And(u, v) => values[u as usize].and(values[v as usize], coins.next()),
-        Gate::Ref(u) => values[u as usize].refresh(coins.next()),
-    }
-}
-
-// Shares the input bits, each with a coin of its own.
-fn share_inputs(
+/// The output bits of the circuit, evaluated at this order on N shares of each value.
+///
+/// The inputs are shared with the first bits of the tape. All memory is taken before the tape is asked. Only the shares
+/// of the outputs are unmasked.
+pub(crate) fn evaluate<const N: usize, E: Entropy, W: Watch, L: Ledger>(
     alloc: Global,
-    inputs: &Bits,
-    coins: &mut Coins<'_>,
-) -> Result<Vec<Shared>, AllocError>
-    requires { length inputs.now ≤ coins.old.left }
-    ensures values { IfOk result (λ values. bits_of values.items ≡ inputs.now) }
-    ensures spent { OnOk result (coins.new.left + length inputs.now ≡ coins.old.left) }
-{
-    let mut values = Vec::new(alloc);
-    for k in 0..inputs.len() {
-        values.push(Shared::new(inputs.get(k), coins.next()))?;
-    }
-    Ok(values)
-}
+    order: u32,
+    prepared: &Prepared,
+    tape: &mut E,
+    watch: &mut W,
+    steps: &mut Steps<L>,
+) -> Result<Bits, TapeError>
+    requires some { 2 ≤ N }
+    requires few { N ≤ 8 }
+    requires order { order + 1 ≡ N }
+    ensures bits { IfOk result (λ bits. bits ≡ plain prepared.now.circuit prepared.now.inputs) }
+    ensures evaluates { OnOk result (Evaluates prepared.now.circuit order prepared.now.inputs
+        (E.left tape.old) (E.left tape.new) (W.told watch.old) (W.told watch.new)) }
+    ensures secure { TellsSecureCalls (W.told watch.old) (W.told watch.new) }
 
-// Appends the value of each gate.
-fn run_gates(
-    values: &mut Vec<Shared>,
-    gates: &[Gate],
-    coins: &mut Coins<'_>,
-) -> Result<(), AllocError>
-    requires known { AreGates (length values.old.items) gates.now }
-    requires coins { sum_by coins_of gates.now ≤ coins.old.left }
-    ensures values { OnOk result (bits_of values.new.items ≡ values_from gates.now (bits_of values.old.items)) }
-    ensures count { OnOk result (length values.new.items ≡ length values.old.items + length gates.now) }
+    // Nothing was drawn or told, where there is no answer.
+    ensures left { OnErr result (E.left tape.new ≡ E.left tape.old) }
+    ensures told { OnErr result (W.told watch.new ≡ W.told watch.old) }
+    ensures failed { IfErr result (λ e. e ≡ Failed → Rose (E.faults tape.old) (E.faults tape.new)
+        × (E.wanted tape.new ≡ bytes_for (eval_bits prepared.now.circuit order)) × (1 ≤ E.wanted tape.new)) }
+    ensures idle { eval_bits prepared.now.circuit order ≡ 0 → tape.new ≡ tape.old }
+    ensures steps { steps.new ≤ steps.old + length prepared.now.circuit.gates }
 {
-    for gate in gates {
-        let value = gate_value(*gate, values, coins);
-        values.push(value)?;
-    }
-    Ok(())
-}
-
-/// How many coins an evaluation takes.
-pub fn coin_count(circuit: &Circuit) -> usize
-    ensures { result ≡ coin_count circuit.now }
-{
-    circuit.inputs() as usize + circuit.products() as usize + circuit.refreshes() as usize
-}
-
-/// The output bits of the circuit on these inputs, evaluated on two shares of each value. The coins share the inputs
-/// first, and then go to the products and refreshes in order.
-pub fn evaluate(
-    alloc: Global,
-    circuit: &Circuit,
-    inputs: &Bits,
-    coins: &Bits,
-) -> Result<Bits, AllocError>
-    requires inputs { length inputs.now ≡ circuit.now.inputs }
-    requires coins { coin_count circuit.now ≤ length coins.now }
-    ensures { IfOk result (λ bits. bits ≡ plain circuit.now inputs.now) }
-{
-    let mut coins = Coins {
-        bits: coins,
-        left: coins.len(),
+    let circuit = prepared.circuit.circuit();
+    let mut frame = Frame::<N>::new(alloc, &prepared.circuit)?;
+    let mut outputs = Bits::zeros(alloc, circuit.outputs().len())?;
+    watch.room(circuit, order, 1)?;
+    let count = coin_count(circuit, order);
+    let mut coins = match Tape::new().reserve(alloc, tape, 1, count) {
+        Ok(coins) => coins,
+        Err(error) => return Err(error),
     };
-    let mut values = share_inputs(alloc, inputs, &mut coins)?;
-    run_gates(&mut values, circuit.gates(), &mut coins)?;
-    unmasked(alloc, &values, circuit.outputs())
+    run(
+        order,
+        prepared,
+        &mut frame,
+        &mut coins,
+        watch,
+        steps,
+        &mut outputs,
+    );
+    coins.finish();
+    Ok(outputs)
 }
 
-// The bits of these values.
-fn unmasked(alloc: Global, values: &[Shared], outputs: &[u32]) -> Result<Bits, AllocError>
-    requires { All (λ u. u < length values.now) outputs.now }
-    ensures { IfOk result (λ bits. bits ≡ map (λ u. value_at (bits_of values.now) u) outputs.now) }
+// How many bits are drawn: those that share the inputs, and those of products and refreshes.
+fn coin_count(circuit: &Circuit, order: u32) -> u64
+    requires some { 1 ≤ order }
+    requires few { order ≤ 7 }
+    ensures bits { result ≡ eval_bits circuit.now order }
+    ensures bound { result ≤ 2 ^ 33 }
 {
-    let mut bits = Bits::new(alloc);
-    for u in outputs {
-        let value = values[*u as usize];
-        bits.push(value.first ^ value.second)?;
+    let _values = circuit.values();
+    let draws = circuit.draws(order);
+    u64::from(order * circuit.inputs()) + draws
+}
+
+// Shares the inputs with the first coins, evaluates with the others, and unmasks the outputs.
+fn run<const N: usize, W: Watch, L: Ledger>(
+    order: u32,
+    prepared: &Prepared,
+    frame: &mut Frame<N>,
+    coins: &mut Coins,
+    watch: &mut W,
+    steps: &mut Steps<L>,
+    outputs: &mut Bits,
+)
+    requires some { 2 ≤ N }
+    requires few { N ≤ 8 }
+    requires order { order + 1 ≡ N }
+    requires fits { Fits frame.old prepared.now.circuit }
+    requires unused { coins.old.used ≡ 0 }
+    requires coins { length coins.old.words ≡ eval_bits prepared.now.circuit order }
+    requires ready { W.ready watch.old prepared.now.circuit order 1 }
+    requires outputs { length outputs.old ≡ length prepared.now.circuit.outputs }
+    ensures bits { outputs.new ≡ plain prepared.now.circuit prepared.now.inputs }
+    ensures told { W.told watch.new ≡ told_more (W.told watch.old)
+        (eval_call prepared.now.circuit order prepared.now.inputs (lane 0 coins.old.words) ∷ []) }
+    ensures spent { left coins.new ≡ 0 }
+    ensures steps { steps.new ≡ steps.old + length prepared.now.circuit.gates }
+{
+    let _circuit = prepared.circuit.circuit();
+    share_inputs(&prepared.inputs, frame, coins);
+    eval(&prepared.circuit, frame, 1, coins, watch, steps);
+    unmask_outputs(frame.outputs(), outputs);
+}
+
+// Gives each input shares of its bit, with the next coins.
+fn share_inputs<const N: usize>(inputs: &Bits, frame: &mut Frame<N>, coins: &mut Coins)
+    requires some { 2 ≤ N }
+    requires few { N ≤ 8 }
+    requires count { length inputs.now ≡ frame.old.inputs }
+    requires numbers { length inputs.now < 2 ^ 32 }
+    requires room { frame.old.inputs ≤ length frame.old.values }
+    requires coins { (N - 1) * length inputs.now ≤ left coins.old }
+    ensures values { input_values frame.new ≡ all_shared words (N - 1) (words_of inputs.now) (drop coins.old.used coins.old.words) }
+    ensures fits { (c : Netlist) → Fits frame.old c → Fits frame.new c }
+    ensures spent { coins.new.used ≡ coins.old.used + (N - 1) * length inputs.now }
+    ensures same { coins.new.words ≡ coins.old.words }
+{
+    for k in 0..inputs.len() {
+        let shares = share(u64::from(inputs.get(k)), coins);
+        frame.set(k as u32, shares);
     }
-    Ok(bits)
+}
+
+// The bits that these shares stand for in lane 0.
+fn unmask_outputs<const N: usize>(shares: &[Shares<N>], outputs: &mut Bits)
+    requires few { N ≤ 8 }
+    requires room { length outputs.old ≡ length shares.now }
+    ensures { outputs.new ≡ map first_bit shares.now }
+{
+    for (k, shared) in shares.iter().enumerate() {
+        outputs.set(k, shared.unmask() & 1 == 1);
+    }
 }

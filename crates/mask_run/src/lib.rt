@@ -3,13 +3,14 @@
 
 mod checking;
 mod command;
-mod drawing;
+mod evaluating;
 mod evaluation;
-mod finishing;
 mod hexadecimal;
+mod probing;
 mod reading;
 mod status;
 mod upgrading;
+mod writing;
 
 pub use command::mask_main;
 pub use status::{Status, status_number, status_text};

@@ -28,6 +28,8 @@ pub enum Status {
     TapeFault,
     /// Writing failed.
     WriteFault,
+    /// The word at this place, counted from 1, is a probe too many, or names no wire of the circuit.
+    BadProbe { place: u32 },
     /// There is no memory.
     NoMemory,
 }
@@ -45,6 +47,7 @@ pub fn status_number(status: &Status) -> u8
         Status::ReadFault => 6,
         Status::TapeFault => 8,
         Status::WriteFault => 9,
+        Status::BadProbe { .. } => 10,
         Status::NoMemory => 11,
     }
 }
@@ -62,6 +65,7 @@ pub fn status_text(status: &Status) -> ArrayString<80>
         Status::ReadFault => said("read fault"),
         Status::TapeFault => said("tape fault"),
         Status::WriteFault => said("write fault"),
+        Status::BadProbe { place } => numbered("bad probe: place ", u64::from(place)),
         Status::NoMemory => said("no memory"),
     }
 }

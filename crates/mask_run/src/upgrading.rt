@@ -1,10 +1,9 @@
 //! `upgrade`: a circuit text of either version, written in version 2.
 
-ghost use Rattle.std.specs.Prelude.{◌≡◌, ℕ, ◌≤◌, [], List, Some};
+ghost use Rattle.std.specs.Prelude.{◌≡◌, ℕ, [], List, Some};
 ghost use Rattle.mask_io.specs.Outside.{Rose};
-ghost use Rattle.mask_run.specs.Promise.{ComesBeforeWriting, NeedsNoTape};
 ghost use Rattle.mask_circuit.specs.Text.{canonical2};
-ghost use Rattle.mask_run.specs.Writing.{Writes};
+ghost use Rattle.mask_run.specs.Outside.{ComesBeforeWriting, NeedsNoTape, Writes};
 ghost use Rattle.mask_run.specs.Upgrading.{UpgradeEnds, UpgradeAnswers};
 
 use crate::reading::status_of;
@@ -26,12 +25,12 @@ pub fn upgrade<S: Source, O: Sink>(alloc: Global, input: &mut S, out: &mut O) ->
     ensures no_tape { NeedsNoTape result }
 {
     match read_labelled(alloc, input) {
-        Ok(labelled) => send(&labelled, out),
+        Ok(labelled) => send_spelling(&labelled, out),
         Err(error) => status_of(error),
     }
 }
 
-fn send<O: Sink>(labelled: &Labelled, out: &mut O) -> Status
+fn send_spelling<O: Sink>(labelled: &Labelled, out: &mut O) -> Status
     ensures writes { Writes (canonical2 labelled.now) (O.written out.old) (O.written out.new) result }
     ensures write_fault { result ≡ Status.WriteFault → Rose (O.faults out.old) (O.faults out.new) }
 {

@@ -6,7 +6,7 @@ use Rattle.std.proofs.lemmas.List.Elements.{filter-append, Contains-append_left,
 use Rattle.mask_circuit.specs.Wires.{Wire, Share, each}
 use Rattle.mask_circuit.specs.Probing.{size}
 use Rattle.mask_circuit.specs.Need.{ShareSet, left_need, right_need, refresh_need}
-use Rattle.mask_laws.proofs.Members.{below_cases}
+use Rattle.mask_circuit.proofs.Places.{below_cases}
 use Rattle.mask_laws.proofs.Needs.{needs_are_small}
 use Rattle.mask_sni.specs.Asked.{members, wires_at}
 

@@ -1,4 +1,4 @@
-//! `eval` on circuits in version 1 and 2 of the text, and each of its refusals.
+//! `eval` on circuits in version 1 and 2 of the text at each order, and each of its refusals.
 
 use crate::runs::{EXAMPLE, Outcome, SEED, run};
 use mask_io::{ClosedEntropy, MemEntropy, MemSource};
@@ -7,20 +7,35 @@ use mask_text::Reason;
 use std::alloc::{AllocError, Global};
 use std::test::Fail;
 
-// One run of `eval 1 HEX` on a text, read seven bytes at a time, with a tape of so many bytes and a roomy output.
-fn eval(alloc: Global, hex: &str, text: &str, tape: usize) -> Result<Outcome, AllocError> {
+// The text of a circuit that isn't accepted: it multiplies a bit by itself.
+const SQUARE: &str = "masked-circuit 1\ninputs 1\nand 0 0\nout 1\nend\n";
+
+// One run of `eval ORDER HEX` on a text, read seven bytes at a time, with a tape of so many bytes and a roomy output.
+fn eval_at(
+    alloc: Global,
+    order: &str,
+    hex: &str,
+    text: &str,
+    tape: usize,
+) -> Result<Outcome, AllocError> {
     let mut input = MemSource::new(Vec::from_slice(alloc, text.as_bytes())?, 7, Vec::new(alloc));
     let mut tape = MemEntropy::new(vec![in alloc; 0xa5u8; tape]?, Vec::new(alloc));
     run(
         alloc,
-        &["-", SEED, "eval", "1", hex],
+        &["-", SEED, "eval", order, hex],
         &mut input,
         &mut tape,
         100,
     )
 }
 
-// Four random bits are drawn for the example circuit: a byte is enough, and with none the tape fails.
+// The same at order 1.
+fn eval(alloc: Global, hex: &str, text: &str, tape: usize) -> Result<Outcome, AllocError> {
+    eval_at(alloc, "1", hex, text, tape)
+}
+
+// Four random bits are drawn for the example circuit: a byte is enough, and with none the tape fails. The watch is told of
+// the one call.
 #[test]
 fn evaluates_the_example(rt: HostRuntime) -> Result<(), Fail> {
     for (hex, line) in [
@@ -32,9 +47,68 @@ fn evaluates_the_example(rt: HostRuntime) -> Result<(), Fail> {
         let outcome = eval(rt.alloc(), hex, EXAMPLE, 1)?;
         assert_eq!(rt; outcome.status, Status::Done, "on {hex}");
         assert_eq!(rt; outcome.written.as_slice(), line.as_bytes(), "on {hex}");
+        assert_eq!(rt; outcome.watch.len(), 1, "on {hex}");
         let unfed = eval(rt.alloc(), hex, EXAMPLE, 0)?;
         assert_eq!(rt; unfed.status, Status::TapeFault, "on {hex}");
         assert!(rt; unfed.written.is_empty(), "on {hex}");
+        assert_eq!(rt; unfed.watch.len(), 0, "on {hex}");
+    }
+    Ok(())
+}
+
+// At order d the two inputs draw 2d bits, and the product and the refresh d(d + 1): 4, 10, 18, 28, 40, 54 and 70 bits.
+#[test]
+fn evaluates_the_example_at_each_order(rt: HostRuntime) -> Result<(), Fail> {
+    for (order, bytes) in [
+        ("1", 1),
+        ("2", 2),
+        ("3", 3),
+        ("4", 4),
+        ("5", 5),
+        ("6", 7),
+        ("7", 9),
+    ] {
+        let outcome = eval_at(rt.alloc(), order, "01", EXAMPLE, bytes)?;
+        assert_eq!(rt; outcome.status, Status::Done, "at order {order}");
+        assert_eq!(rt; outcome.written.as_slice(), b"01\n".as_slice(), "at order {order}");
+        let unfed = eval_at(rt.alloc(), order, "01", EXAMPLE, bytes - 1)?;
+        assert_eq!(rt; unfed.status, Status::TapeFault, "at order {order}");
+    }
+    Ok(())
+}
+
+// On the tape 1010 0101, lowest bit first: the coins of the inputs are 1 and 0, those of refresh and product 1 and 0.
+#[test]
+fn tells_the_call(rt: HostRuntime) -> Result<(), Fail> {
+    let outcome = eval(rt.alloc(), "01", EXAMPLE, 1)?;
+    assert_eq!(rt; outcome.watch.len(), 1);
+    if outcome.watch.len() == 1 {
+        let call = outcome.watch.get(0);
+        assert_eq!(rt; call.order, 1);
+        for (bits, want) in [
+            (&call.inputs, [false, true, false, false].as_slice()),
+            (&call.tape, [true, false].as_slice()),
+            (&call.outputs, [false, true].as_slice()),
+        ] {
+            assert_eq!(rt; bits.len(), want.len());
+            for (k, bit) in want.iter().enumerate() {
+                if k < bits.len() {
+                    assert_eq!(rt; bits.get(k), *bit, "bit {k}");
+                }
+            }
+        }
+    }
+    Ok(())
+}
+
+// A circuit that isn't accepted is not evaluated: nothing is written, drawn or told, even where there is no tape.
+#[test]
+fn refuses_a_circuit_that_is_not_accepted(rt: HostRuntime) -> Result<(), Fail> {
+    for tape in [0, 1] {
+        let outcome = eval(rt.alloc(), "01", SQUARE, tape)?;
+        assert_eq!(rt; outcome.status, Status::Refused { product: 1, source: 0 });
+        assert!(rt; outcome.written.is_empty());
+        assert_eq!(rt; outcome.watch.len(), 0);
     }
     Ok(())
 }
@@ -109,7 +183,7 @@ fn names_the_object_that_failed(rt: HostRuntime) -> Result<(), Fail> {
 
 #[test]
 fn refuses_words_that_are_no_job(rt: HostRuntime) -> Result<(), Fail> {
-    let cases: [(&[&str], u32); 9] = [
+    let cases: [(&[&str], u32); 10] = [
         (&[], 1),
         (&["k", "t"], 3),
         (&["k", "t", "enc", "des"], 3),
@@ -118,6 +192,7 @@ fn refuses_words_that_are_no_job(rt: HostRuntime) -> Result<(), Fail> {
         (&["k", "t", "upgrade", "more"], 4),
         (&["k", "t", "eval", "8", "01"], 4),
         (&["k", "t", "eval", "1", "0"], 5),
+        (&["k", "t", "probe", "1", "4294967296"], 5),
         (&["k", "t", "eval", "1", "01", "01"], 6),
     ];
     for (words, place) in cases {
@@ -157,6 +232,7 @@ fn says_how_it_ended(rt: HostRuntime) {
         (Status::ReadFault, 6, "read fault"),
         (Status::TapeFault, 8, "tape fault"),
         (Status::WriteFault, 9, "write fault"),
+        (Status::BadProbe { place: 5 }, 10, "bad probe: place 5"),
         (Status::NoMemory, 11, "no memory"),
     ] {
         assert_eq!(rt; status_number(&status), number, "{text}");

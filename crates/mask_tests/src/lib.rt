@@ -1,4 +1,5 @@
-//! Tests of the top call, in a crate of their own: what they prove again is only that each call is safe.
+//! Tests of the top call, and of several crates together, in a crate of their own: what they prove again is only that each
+//! call is safe.
 #![tactic(auto)]
 
 #[cfg(test)]
@@ -7,5 +8,7 @@ mod checking;
 mod evaluation;
 #[cfg(test)]
 mod gadgets;
+#[cfg(test)]
+mod probing;
 #[cfg(test)]
 mod runs;

@@ -1,9 +1,15 @@
 //! Runs of the top call over objects in memory.
 
+ghost use Rattle.std.specs.Prelude.{◌≡◌, ◌<◌};
+
+use mask_circuit::Steps;
+use mask_eval::ListWatch;
 use mask_io::{ClosedSource, Entropy, MemSink, Source};
 use mask_run::{Status, mask_main};
 use mask_words::{MAX_WORDS, Words};
 use std::alloc::{AllocError, Global};
+use std::marker::Brand;
+use std::sync::ledger::{Blank, Ledger};
 
 /// The example circuit: the sum of two inputs, refreshed, times the first of them.
 pub const EXAMPLE: &str = "masked-circuit 1\ninputs 2\nxor 0 1\nref 2\nand 0 3\nout 4\nend\n";
@@ -11,11 +17,12 @@ pub const EXAMPLE: &str = "masked-circuit 1\ninputs 2\nxor 0 1\nref 2\nand 0 3\n
 /// The name of a tape; the tape itself is handed in.
 pub const SEED: &str = "seed:0000000000000000000000000000000000000000000000000000000000000000";
 
-/// How a run ended, and what it wrote.
+/// How a run ended, what it wrote, and what the watch was told.
 #[derive(Drop)]
 pub struct Outcome {
     pub status: Status,
     pub written: Vec<u8>,
+    pub watch: ListWatch,
 }
 
 /// Runs the command with these words on an input and a tape, and room for so many bytes of output.
@@ -27,18 +34,32 @@ pub fn run<S: Source, E: Entropy>(
     room: usize,
 ) -> Result<Outcome, AllocError> {
     let words = words_of(alloc, words)?;
+    run_words::<S, E, Brand>(alloc, &words, input, tape, room, Blank::new(1))
+}
+
+fn run_words<S: Source, E: Entropy, L: Ledger>(
+    alloc: Global,
+    words: &Words,
+    input: &mut S,
+    tape: &mut E,
+    room: usize,
+    blank: Blank,
+) -> Result<Outcome, AllocError>
+    requires name { blank.name ≡ L.name }
+    requires parts { blank.parts ≡ L.parts }
+    requires some { 0 < L.parts }
+{
+    let mut keys = ClosedSource::new();
     let mut out = MemSink::new(alloc, room, 16, Vec::new(alloc))?;
+    let mut watch = ListWatch::new(alloc);
+    let mut steps = Steps::<L>::new(blank);
     let status = mask_main(
-        alloc,
-        &words,
-        &mut ClosedSource::new(),
-        input,
-        tape,
-        &mut out,
+        alloc, words, &mut keys, input, tape, &mut out, &mut watch, &mut steps,
     );
     Ok(Outcome {
         status,
         written: Vec::from_slice(alloc, out.bytes())?,
+        watch,
     })
 }
 

@@ -1,3 +1,7 @@
+use Rattle.std.proofs.Common.{subst, ℕ, ◌≤◌, ◌+◌}
+use Rattle.mask_circuit.specs.Netlist.{Netlist}
+use Rattle.mask_check.specs.Costs.{most_steps}
+use Rattle.mask_run.proofs.TextLaws.{text_is_one}
 use Rattle.mask_run.proofs.Judging.{CheckEnds-written, CheckAnswers-written, CheckEnds-unjudged, CheckAnswers-unjudged, CheckEnds-refused, CheckAnswers-refused}
 use Rattle.mask_run.proofs.checking.check.Goals as goal
 
@@ -26,3 +30,13 @@ returns-in-Err-judge-clause-ends g c text told = CheckEnds-unjudged text _ (c.in
 
 pub returns-in-Err-judge-clause-answers : goal.returns-in-Err-judge-clause-answers
 returns-in-Err-judge-clause-answers g c text told = CheckAnswers-unjudged text _ (c.in-Ok.ensures.ok text told).0 _ c.in-Err-judge.ensures.err
+
+pub returns-in-Ok-judge-clause-steps : goal.returns-in-Ok-judge-clause-steps
+returns-in-Ok-judge-clause-steps g c text d told stands =
+    subst (λ (n : Netlist). c.judge.new.steps ≤ c.args.steps.now + most_steps n)
+    (text_is_one text _ d (c.in-Ok.ensures.ok text told).0 stands) c.judge.ensures.steps
+
+pub returns-in-Err-judge-clause-steps : goal.returns-in-Err-judge-clause-steps
+returns-in-Err-judge-clause-steps g c text d told stands =
+    subst (λ (n : Netlist). c.judge.new.steps ≤ c.args.steps.now + most_steps n)
+    (text_is_one text _ d (c.in-Ok.ensures.ok text told).0 stands) c.judge.ensures.steps

@@ -1,7 +1,7 @@
 use Rattle.std.proofs.Common.{refl, subst}
 use Rattle.mask_circuit.specs.Netlist.{Netlist}
 use Rattle.mask_circuit.specs.Acceptance.{IsStrong}
-use Rattle.mask_run.proofs.Strength.{TellsStrong-gap}
+use Rattle.mask_run.proofs.Judging.{TellsStrong-gap}
 use Rattle.mask_run.proofs.checking.is_strong.Goals as goal
 
 pub returns-in-Ok : goal.returns-in-Ok

@@ -1,20 +1,30 @@
-use Rattle.std.proofs.Common.{ℕ, ◌<◌, length, ap, sym, ◌∙◌, arith, subst, List}
-use Rattle.std.proofs.lemmas.List.{length-map}
-use Rattle.mask_circuit.specs.declared.gates.Gate.{Gate}
-use Rattle.mask_run.specs.Shared.{bit_of}
-use Rattle.mask_run.proofs.Counting.{sum_by-coins_of}
+use Rattle.std.proofs.Common.{◌≡◌, ℕ, suc, ◌-◌, List, [], ◌∷◌, ap, ap₂, ◌∙◌, arith}
+use Rattle.std.specs.declared.option.Option.{Option}
+use Rattle.mask_circuit.specs.Netlist.{Netlist}
+use Rattle.mask_eval.specs.Watching.{Told, told_more}
+use Rattle.mask_run.specs.Calls.{eval_bits}
+use Rattle.mask_run.proofs.LaneZero.{drawn_call}
+use Rattle.mask_run.proofs.Telling.{TellsSecureCalls-evaluated}
 use Rattle.mask_run.proofs.evaluation.evaluate.Goals as goal
 
-pub unmasked-requires : goal.unmasked-requires
-unmasked-requires c k d h =
-    let inputs = sym (length-map c.in_ok-values.values.items bit_of) ∙ ap length c.in_ok-values.ensures.values in
-    let within = c.outputs.ensures.circuit.outputs k d (subst (λ (us : List ℕ). k < length us) c.outputs.ensures.same h) in
-    let gates = ap (λ (gs : List Gate). length gs) c.gates.ensures.same in
-    let count = c.in_ok-run_gates.ensures.count in
-    rw (c.outputs.ensures.same, c.deref.ensures.len) (omega arith)
+pub returns-clause-evaluates : goal.returns-clause-evaluates
+returns-clause-evaluates g c =
+    let drawn = c.in-Ok.ensures.drawn in
+    let count = c.coin_count-count.ensures.bits ∙ ap (λ (n : Netlist). eval_bits n c.args.order) c.circuit-circuit.ensures.same in
+    let call = drawn_call c.args.prepared.now.circuit c.args.order c.args.prepared.now.inputs c.new-2.result _ _ _ _ c.in-Ok.coins.words c.new-2.ensures
+        count c.args.prepared.now.just_enough drawn in
+    record {
+      fresh = drawn.fresh;
+      count = call.0;
+      drawn = drawn.taken;
+      tells =
+          c.run.ensures.told
+          ∙ ap₂ (λ (told : Option (List Told)) (t : Told). told_more told (t ∷ [])) c.room.ensures.told call.1;
+    }
 
-pub run_gates-requires-clause-coins : goal.run_gates-requires-clause-coins
-run_gates-requires-clause-coins c =
-    let gates = sum_by-coins_of c.args.circuit.now.gates in
-    let spent = c.in_ok-values.ensures.spent in
-    rw c.gates.ensures.same (omega arith)
+pub returns-clause-secure : goal.returns-clause-secure
+returns-clause-secure g c =
+    let circuit = c.circuit-circuit.ensures in
+    TellsSecureCalls-evaluated c.args.prepared.now.circuit c.args.order c.args.prepared.now.inputs (g.E.Entropy.left c.args.tape.now)
+    (g.E.Entropy.left c.reserve.new.entropy) (g.W.Watch.told c.args.watch.now) (g.W.Watch.told c.run.new.watch) (returns-clause-evaluates g c) (omega arith)
+    (omega arith) circuit.circuit circuit.accepted circuit.secure

@@ -2,7 +2,7 @@ use Rattle.std.proofs.Common.{subst, List, ℕ}
 use Rattle.std.specs.declared.option.Option.{Option}
 use Rattle.mask_text.specs.Text.{IsTextOf}
 use Rattle.mask_text.specs.Answers.{TakesAll, Explains}
-use Rattle.mask_run.proofs.Told.{TakesAll-told, Explains-told, status_of-reading}
+use Rattle.mask_run.proofs.TextLaws.{TakesAll-told, Explains-told, status_of-early}
 use Rattle.mask_run.proofs.reading.read.Goals as goal
 
 pub returns-in-Ok-clause-ok : goal.returns-in-Ok-clause-ok
@@ -20,5 +20,5 @@ returns-in-Err-clause-err g c text told =
     rw c.status_of.ensures (Explains-told c.in-Err.error text now was is
     (subst (λ (before : Option (List ℕ)). Explains c.in-Err.error before now was is) told c.in-Err.ensures.only))
 
-pub returns-in-Err-clause-reading : goal.returns-in-Err-clause-reading
-returns-in-Err-clause-reading g c = rw c.status_of.ensures (status_of-reading c.in-Err.error)
+pub returns-in-Err-clause-early : goal.returns-in-Err-clause-early
+returns-in-Err-clause-early g c = rw c.status_of.ensures (status_of-early c.in-Err.error)

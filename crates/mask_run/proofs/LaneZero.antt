@@ -1,0 +1,128 @@
+-- Plain bits in lane 0 of words: shared, evaluated and unmasked.
+use Rattle.std.proofs.Common.{◌≡◌, ℕ, suc, ◌+◌, ◌-◌, ◌*◌, ◌≤◌, Bool, true, false, cond, List, [], ◌∷◌, ◌++◌, length, map, take, drop, refl, ap, ap₂, sym, ◌∙◌, ◌==◌, bit_and, arith, lit<}
+use Rattle.std.specs.List.{concat}
+use Rattle.std.proofs.Math.Path.{fun_ext}
+use Rattle.std.proofs.lemmas.List.{map-append, take-map, drop-map, take-take, drop-take}
+use Rattle.std.proofs.lemmas.Simd.{map-map}
+use Rattle.std.proofs.lemmas.Nat.{and_mask}
+use Rattle.std.proofs.lemmas.Nat.Bits.{bit_at_lowest}
+use Rattle.std.specs.declared.option.Option.{Option}
+use Rattle.mask_bits.specs.Reading.{bit, low}
+use Rattle.mask_bits.specs.Lanes.{lane}
+use Rattle.mask_circuit.specs.Netlist.{Netlist}
+use Rattle.mask_circuit.specs.Ring.{bits, words}
+use Rattle.mask_circuit.specs.Expansion.{draws, outs}
+use Rattle.mask_shares.specs.Sharing.{all_listed, all_shared, unmasked}
+use Rattle.mask_tape.specs.Tape.{IsDrawn}
+use Rattle.mask_eval.specs.Watching.{Told, reports}
+use Rattle.mask_eval.proofs.Shared.{all_shared_in_lane, unmasked_in_lane, all_shared-unmask, all_shared-take}
+use Rattle.mask_run.specs.Outside.{bytes_for}
+use Rattle.mask_run.specs.Calls.{value_by_value, eval_bits, eval_call}
+use Rattle.mask_run.specs.Lanes.{words_of, first_bit}
+
+-- a bit as a word has it in lane 0
+bit-word : (b : Bool) → bit 0 (cond b 1 0) ≡ b
+bit-word true = refl
+bit-word false = refl
+
+pub lane-words_of : (bs : List Bool) → lane 0 (words_of bs) ≡ bs
+lane-words_of [] = refl
+lane-words_of (b ∷ bs) = ap₂ (λ (c : Bool) (cs : List Bool). c ∷ cs) (bit-word b) (lane-words_of bs)
+
+-- the words of all values in a lane
+pub lane-concat : (xss : List (List ℕ)) → lane 0 (concat xss) ≡ value_by_value (map (lane 0) xss)
+lane-concat [] = refl
+lane-concat (xs ∷ xss) = map-append (bit 0) xs (concat xss) ∙ ap (λ (bs : List Bool). lane 0 xs ++ bs) (lane-concat xss)
+
+-- shares made with words are in lane 0 those made with bits, and share the bits
+pub shared_in_lane : (d : ℕ) (bs : List Bool) (coins : List ℕ) → map (lane 0) (all_shared words d (words_of bs) coins) ≡ all_shared bits d bs (lane 0 coins)
+shared_in_lane d bs coins =
+    all_shared_in_lane 0 d (words_of bs) coins
+    ∙ ap (λ (cs : List Bool). all_shared bits d cs (lane 0 coins)) (lane-words_of bs)
+
+pub shared_first_bits : (d : ℕ) (bs : List Bool) (coins : List ℕ) → map first_bit (all_shared words d (words_of bs) coins) ≡ bs
+shared_first_bits d bs coins =
+    sym (map-map (unmasked bits) (lane 0) (all_shared words d (words_of bs) coins))
+    ∙ ap (map (unmasked bits)) (shared_in_lane d bs coins)
+    ∙ all_shared-unmask d bs (lane 0 coins)
+
+-- the lowest bit of the word that shares stand for is the one that they stand for in lane 0
+pub lowest_bit : (word : ℕ) (shares : List ℕ) → word ≡ unmasked words shares → bit_and word 1 == 1 ≡ first_bit shares
+lowest_bit word shares is =
+    ap (λ (n : ℕ). n == 1) (and_mask word 1 ∙ sym (bit_at_lowest word))
+    ∙ ap (bit 0) is
+    ∙ unmasked_in_lane 0 shares
+
+-- THE CALL
+
+-- records of calls are the same where their parts are
+same_call : (c : Netlist) (d : ℕ) (i i' t t' o o' : List Bool) → i ≡ i' → t ≡ t' → o ≡ o' →
+    (let one : Told = record { circuit = c; order = d; inputs = i; tape = t; outputs = o } in
+    let two : Told = record { circuit = c; order = d; inputs = i'; tape = t'; outputs = o' } in one ≡ two)
+same_call c d i i' t t' o o' ei et eo =
+    ap (λ (x : List Bool). record { circuit = c; order = d; inputs = x; tape = t; outputs = o }) ei
+    ∙ ap₂ (λ (x y : List Bool). record { circuit = c; order = d; inputs = i'; tape = x; outputs = y }) et eo
+
+-- the coins behind those of the inputs, in lane 0
+pub lane-coins : (n used : ℕ) (ws : List ℕ) → lane 0 (take n (drop used ws)) ≡ take n (drop used (lane 0 ws))
+lane-coins n used ws = sym (take-map (bit 0) n (drop used ws)) ∙ ap (take n) (sym (drop-map (bit 0) used ws))
+
+-- what the watch is told of an evaluation on shared bits is the call of `eval`
+pub reported_call : (c : Netlist) (N d : ℕ) (bs : List Bool) (ws seen : List ℕ) (used : ℕ) (inputs outputs : List (List ℕ)) →
+    N ≡ suc d → inputs ≡ all_shared words d (words_of bs) ws → seen ≡ ws → used ≡ d * length bs →
+    map (lane 0) outputs ≡ outs bits c N (all_listed bits (map (lane 0) inputs)) (lane 0 (take (draws c N) (drop used seen))) →
+    reports c d (concat inputs) (take (draws c N) (drop used seen)) (concat outputs) 1 ≡ eval_call c d bs (lane 0 ws) ∷ []
+reported_call c N d bs ws seen used inputs outputs more shared same count evaluated =
+    ap (λ (t : Told). t ∷ [])
+    (same_call c d _ _ _ _ _ _ (lane-concat inputs ∙ ap value_by_value shares) coins
+    (lane-concat outputs ∙ ap value_by_value (evaluated ∙ ap₂ (λ (s : List (List Bool)) (t : List Bool). outs bits c N (all_listed bits s) t) shares coins
+    ∙ ap (λ (n : ℕ). outs bits c n (all_listed bits (all_shared bits d bs (lane 0 ws))) tape) more)))
+  where
+    tape : List Bool
+    tape = take (draws c (suc d)) (drop (d * length bs) (lane 0 ws))
+
+    shares : map (lane 0) inputs ≡ all_shared bits d bs (lane 0 ws)
+    shares = ap (map (lane 0)) shared ∙ shared_in_lane d bs ws
+
+    coins : lane 0 (take (draws c N) (drop used seen)) ≡ take (draws c (suc d)) (drop (d * length bs) (lane 0 ws))
+    coins =
+        lane-coins (draws c N) used seen
+        ∙ ap (λ (n : ℕ). take (draws c n) (drop used (lane 0 seen))) more
+        ∙ ap₂ (λ (n : ℕ) (xs : List ℕ). take (draws c (suc d)) (drop n (lane 0 xs))) count same
+
+-- the call reads as many bits of the tape as it draws
+pub call-take : (c : Netlist) (d : ℕ) (bs r : List Bool) → length bs ≡ c.inputs → eval_call c d bs (take (eval_bits c d) r) ≡ eval_call c d bs r
+call-take c d bs r count =
+    same_call c d _ _ _ _ _ _ (ap value_by_value shares) tape
+    (ap₂ (λ (s : List (List Bool)) (t : List Bool). value_by_value (outs bits c (suc d) (all_listed bits s) t)) shares tape)
+  where
+    total : eval_bits c d ≡ d * length bs + draws c (suc d)
+    total = ap (λ (n : ℕ). d * n + draws c (suc d)) (sym count)
+
+    shares : all_shared bits d bs (take (eval_bits c d) r) ≡ all_shared bits d bs r
+    shares =
+        sym (all_shared-take bits d bs (take (eval_bits c d) r))
+        ∙ ap (all_shared bits d bs) (take-take (d * length bs) (eval_bits c d) r (omega (arith, total)))
+        ∙ all_shared-take bits d bs r
+
+    tape : take (draws c (suc d)) (drop (d * length bs) (take (eval_bits c d) r)) ≡ take (draws c (suc d)) (drop (d * length bs) r)
+    tape =
+        ap (λ (n : ℕ). take (draws c (suc d)) (drop (d * length bs) (take n r))) total
+        ∙ ap (take (draws c (suc d))) (drop-take (d * length bs) (draws c (suc d)) r)
+        ∙ take-take (draws c (suc d)) (draws c (suc d)) (drop (d * length bs) r) (omega arith)
+
+-- the coins of one lane that were drawn from a tape that kept nothing are the next bits of new bytes
+pub drawn_call : (c : Netlist) (d : ℕ) (bs kept kept' : List Bool) (before now : Option (List ℕ)) (count : ℕ) (ws : List ℕ) → kept ≡ [] → count ≡ eval_bits c d →
+    length bs ≡ c.inputs → (drawn : IsDrawn kept kept' before now 1 count ws) →
+    (length drawn.fresh ≡ bytes_for (eval_bits c d)) × (eval_call c d bs (lane 0 ws) ≡ eval_call c d bs (low drawn.fresh))
+drawn_call c d bs kept kept' before now count ws none is inputs drawn =
+    (needed, ap (eval_call c d bs) next ∙ call-take c d bs (low drawn.fresh) inputs)
+  where
+    needed : length drawn.fresh ≡ bytes_for (eval_bits c d)
+    needed = let n = ap (λ (k : List Bool). length k) none in omega (arith, drawn.needed, is)
+
+    next : lane 0 ws ≡ take (eval_bits c d) (low drawn.fresh)
+    next =
+        drawn.spread.used 0 (lit< tt)
+        ∙ ap₂ (λ (n : ℕ) (k : List Bool). take n (drop (0 * count) (k ++ low drawn.fresh))) is none
+        ∙ ap (λ (n : ℕ). take (eval_bits c d) (drop n (low drawn.fresh))) (let e : 0 * count ≡ 0 = omega arith in e)

@@ -1,0 +1,78 @@
+use Rattle.std.proofs.Common.{◌≡◌, ℕ, ◌≤◌, ◌+◌, sym, ap, subst, ◌∙◌, arith, length, List}
+use Rattle.mask_circuit.specs.Netlist.{Netlist}
+use Rattle.mask_check.specs.Costs.{most_steps}
+use Rattle.mask_run.specs.Calls.{eval_bits}
+use Rattle.mask_run.specs.Outside.{Outside}
+use Rattle.mask_run.specs.Texts.{Stands}
+use Rattle.mask_run.proofs.TextLaws.{text_is_one}
+use Rattle.mask_run.proofs.Printing.{EvalEnds-evaluated, EvalEnds-undrawn, EvalEnds-refused, EvalAnswers-evaluated, EvalAnswers-undrawn, EvalAnswers-unheld, EvalAnswers-refused}
+use Rattle.mask_run.proofs.evaluating.eval.Goals as goal
+
+pub returns-in-Err-clause-answers : goal.returns-in-Err-clause-answers
+returns-in-Err-clause-answers g c text told = EvalAnswers-refused text c.args.hex.now _ (c.in-Err.ensures.err text told)
+
+pub returns-in-Ok-evaluated-clause-ends : goal.returns-in-Ok-evaluated-clause-ends
+returns-in-Ok-evaluated-clause-ends g c text told =
+    let prints = rw c.in-Ok-evaluated.ensures.bits at c.send_bits.ensures.prints in
+    EvalEnds-evaluated text c.args.hex.now _ _ (c.in-Ok.ensures.ok text told).0 c.args.order _ c.in-Ok-evaluated.ensures.evaluates _ prints
+
+pub returns-in-Ok-evaluated-clause-answers : goal.returns-in-Ok-evaluated-clause-answers
+returns-in-Ok-evaluated-clause-answers g c text told =
+    let prints = rw c.in-Ok-evaluated.ensures.bits at c.send_bits.ensures.prints in
+    EvalAnswers-evaluated text c.args.hex.now _ _ (c.in-Ok.ensures.ok text told).0 _ _ _ prints
+
+pub returns-in-Ok-evaluated-clause-all_read : goal.returns-in-Ok-evaluated-clause-all_read
+returns-in-Ok-evaluated-clause-all_read g c done text told = (c.in-Ok.ensures.ok text told).1
+
+-- the circuit that was read is the one for which the text stands
+read_there : (text : List ℕ) (c d : Netlist) (n : ℕ) → Stands text c → Stands text d → eval_bits d n ≡ 0 → eval_bits c n ≡ 0
+read_there text c d n h k none = ap (λ (e : Netlist). eval_bits e n) (text_is_one text c d h k) ∙ none
+
+pub returns-in-Ok-evaluated-clause-idle : goal.returns-in-Ok-evaluated-clause-idle
+returns-in-Ok-evaluated-clause-idle g c text d told stands none =
+    c.evaluated.ensures.idle (read_there text _ d c.args.order (c.in-Ok.ensures.ok text told).0.stands stands none)
+
+pub returns-in-Err-Failed-clause-idle : goal.returns-in-Err-Failed-clause-idle
+returns-in-Err-Failed-clause-idle g c text d told stands none =
+    c.evaluated.ensures.idle (read_there text _ d c.args.order (c.in-Ok.ensures.ok text told).0.stands stands none)
+
+pub returns-clause-idle : goal.returns-clause-idle
+returns-clause-idle g c text d told stands none =
+    c.evaluated.ensures.idle (read_there text _ d c.args.order (c.in-Ok.ensures.ok text told).0.stands stands none)
+
+-- the steps of checking and of evaluating add up
+steps_there : (text : List ℕ) (c d : Netlist) (before mid now : ℕ) → Stands text c → Stands text d → mid ≤ before + most_steps d → now ≤ mid + length c.gates →
+    now ≤ before + (most_steps d + length d.gates)
+steps_there text c d before mid now h k checked evaluated =
+    let same = ap (λ (e : Netlist). length e.gates) (text_is_one text c d h k) in omega arith
+
+pub returns-in-Ok-evaluated-clause-steps : goal.returns-in-Ok-evaluated-clause-steps
+returns-in-Ok-evaluated-clause-steps g c text d told stands =
+    steps_there text _ d _ _ _ (c.in-Ok.ensures.ok text told).0.stands stands (c.prepare.ensures.steps text d told stands) c.evaluated.ensures.steps
+
+pub returns-in-Err-Failed-clause-steps : goal.returns-in-Err-Failed-clause-steps
+returns-in-Err-Failed-clause-steps g c text d told stands =
+    steps_there text _ d _ _ _ (c.in-Ok.ensures.ok text told).0.stands stands (c.prepare.ensures.steps text d told stands) c.evaluated.ensures.steps
+
+pub returns-clause-steps : goal.returns-clause-steps
+returns-clause-steps g c text d told stands =
+    steps_there text _ d _ _ _ (c.in-Ok.ensures.ok text told).0.stands stands (c.prepare.ensures.steps text d told stands) c.evaluated.ensures.steps
+
+pub returns-in-Err-Failed-clause-ends : goal.returns-in-Err-Failed-clause-ends
+returns-in-Err-Failed-clause-ends g c text told =
+    let failed = c.in-Err-Failed.ensures.failed c.in-Err-Failed.field-0-is in
+    let outside : Outside =
+        record {
+          tape_before = g.E.Entropy.left c.args.tape.now;
+          tape_after = g.E.Entropy.left c.evaluated.new.tape;
+          wanted = g.E.Entropy.wanted c.evaluated.new.tape;
+          out_before = g.O.Sink.written c.args.out.now;
+          out_after = g.O.Sink.written c.args.out.now;
+          told_before = g.W.Watch.told c.args.watch.now;
+          told_after = g.W.Watch.told c.evaluated.new.watch;
+        } in
+    EvalEnds-undrawn text c.args.hex.now _ _ (c.in-Ok.ensures.ok text told).0 c.args.order outside failed.1 failed.2
+    (c.in-Err-Failed.ensures.left, c.in-Err-Failed.ensures.told)
+
+pub returns-in-Err-Failed-clause-answers : goal.returns-in-Err-Failed-clause-answers
+returns-in-Err-Failed-clause-answers g c text told = EvalAnswers-undrawn text c.args.hex.now _ _ (c.in-Ok.ensures.ok text told).0

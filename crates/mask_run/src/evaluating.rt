@@ -1,0 +1,151 @@
+//! `eval`: the output bits of a circuit that is evaluated on shares.
+
+ghost use Rattle.std.specs.Prelude.{◌≡◌, ℕ, ◌+◌, ◌≤◌, [], List, length, Some, IfOk, IfErr, OnOk, OnErr, IsTrue, IsErrOf};
+ghost use Rattle.mask_io.specs.Outside.{Rose};
+ghost use Rattle.mask_circuit.specs.Netlist.{Netlist};
+ghost use Rattle.mask_circuit.specs.Value.{plain};
+ghost use Rattle.mask_check.specs.Costs.{most_steps};
+ghost use Rattle.mask_tape.specs.declared.tape.TapeError.TheVariants.{Failed};
+ghost use Rattle.mask_words.specs.WordTests.{is_hex_text};
+ghost use Rattle.mask_run.specs.Outside.{Outside, ComesFromReading, ComesBeforeDrawing, ComesBeforeWriting, bytes_for};
+ghost use Rattle.mask_run.specs.Texts.{Stands};
+ghost use Rattle.mask_run.specs.Calls.{eval_bits, Evaluates, TellsSecureCalls};
+ghost use Rattle.mask_run.specs.Evaluating.{Prepares, RefusesEval, EvalEnds, EvalAnswers, PrintsBits};
+
+use crate::evaluation::{Prepared, evaluate};
+use crate::hexadecimal::{input_bits, report};
+use crate::reading::{admitted, read};
+use crate::status::Status;
+use crate::writing::send;
+use mask_bits::Bits;
+use mask_circuit::Steps;
+use mask_eval::Watch;
+use mask_io::{Entropy, Sink, Source};
+use mask_tape::TapeError;
+use std::alloc::Global;
+use std::sync::ledger::Ledger;
+
+/// Reads a circuit from all that the input has left, evaluates it at this order on the bits of `hex`, and writes its
+/// output bits.
+pub fn eval<S: Source, E: Entropy, O: Sink, W: Watch, L: Ledger>(
+    alloc: Global,
+    order: u32,
+    hex: &str,
+    input: &mut S,
+    tape: &mut E,
+    out: &mut O,
+    watch: &mut W,
+    steps: &mut Steps<L>,
+) -> Status
+    requires some { 1 ≤ order }
+    requires few { order ≤ 7 }
+    requires hex { IsTrue (is_hex_text hex.now) }
+    ensures ends { (text : List ℕ) → S.left input.old ≡ Some text → EvalEnds text hex.now order
+        (record {
+          tape_before = E.left tape.old;
+          tape_after = E.left tape.new;
+          wanted = E.wanted tape.new;
+          out_before = O.written out.old;
+          out_after = O.written out.new;
+          told_before = W.told watch.old;
+          told_after = W.told watch.new;
+        }) result }
+    ensures answers { (text : List ℕ) → S.left input.old ≡ Some text → EvalAnswers text hex.now result }
+    ensures all_read { result ≡ Status.Done → (text : List ℕ) → S.left input.old ≡ Some text → S.left input.new ≡ Some [] }
+    ensures secure { TellsSecureCalls (W.told watch.old) (W.told watch.new) }
+    ensures read_fault { result ≡ Status.ReadFault → Rose (S.faults input.old) (S.faults input.new) }
+    ensures tape_fault { result ≡ Status.TapeFault → Rose (E.faults tape.old) (E.faults tape.new) }
+    ensures write_fault { result ≡ Status.WriteFault → Rose (O.faults out.old) (O.faults out.new) }
+    ensures wants { result ≡ Status.TapeFault → 1 ≤ E.wanted tape.new }
+    ensures idle { (text : List ℕ) (c : Netlist) → S.left input.old ≡ Some text → Stands text c → eval_bits c order ≡ 0 → tape.new ≡ tape.old }
+    ensures undrawn { ComesBeforeDrawing result → tape.new ≡ tape.old }
+    ensures untold { ComesBeforeDrawing result → watch.new ≡ watch.old }
+    ensures unwritten { ComesBeforeWriting result → out.new ≡ out.old }
+    ensures steps { (text : List ℕ) (c : Netlist) → S.left input.old ≡ Some text → Stands text c →
+        steps.new ≤ steps.old + (most_steps c + length c.gates) }
+{
+    let prepared = match prepare(alloc, hex, input, steps) {
+        Ok(prepared) => prepared,
+        Err(status) => return status,
+    };
+    match evaluated(alloc, order, &prepared, tape, watch, steps) {
+        Ok(bits) => send_bits(alloc, &bits, out),
+        Err(TapeError::Failed) => Status::TapeFault,
+        Err(TapeError::NoMemory) => Status::NoMemory,
+    }
+}
+
+// Reads a circuit from all that the input has left, and the bits of `hex` for its inputs, and admits the circuit.
+fn prepare<S: Source, L: Ledger>(
+    alloc: Global,
+    hex: &str,
+    input: &mut S,
+    steps: &mut Steps<L>,
+) -> Result<Prepared, Status>
+    requires { IsTrue (is_hex_text hex.now) }
+    ensures ok { IfOk result (λ p. (text : List ℕ) → S.left input.old ≡ Some text →
+        Prepares text hex.now p.circuit p.inputs × (S.left input.new ≡ Some [])) }
+    ensures err { IfErr result (λ status. (text : List ℕ) → S.left input.old ≡ Some text → RefusesEval text hex.now status) }
+    ensures early { IfErr result ComesFromReading }
+    ensures read_fault { IsErrOf result Status.ReadFault → Rose (S.faults input.old) (S.faults input.new) }
+    ensures steps { (text : List ℕ) (c : Netlist) → S.left input.old ≡ Some text → Stands text c → steps.new ≤ steps.old + most_steps c }
+{
+    let circuit = match read(alloc, input) {
+        Ok(circuit) => circuit,
+        Err(status) => return Err(status),
+    };
+    let inputs = match input_bits(alloc, hex, circuit.inputs()) {
+        Ok(Some(inputs)) => inputs,
+        Ok(None) => return Err(Status::BadWords { place: 5 }),
+        Err(_) => return Err(Status::NoMemory),
+    };
+    match admitted(alloc, circuit, steps) {
+        Ok(circuit) => Ok(Prepared { circuit, inputs }),
+        Err(status) => Err(status),
+    }
+}
+
+// Evaluates at an order that is known when the program runs alone.
+fn evaluated<E: Entropy, W: Watch, L: Ledger>(
+    alloc: Global,
+    order: u32,
+    prepared: &Prepared,
+    tape: &mut E,
+    watch: &mut W,
+    steps: &mut Steps<L>,
+) -> Result<Bits, TapeError>
+    requires some { 1 ≤ order }
+    requires few { order ≤ 7 }
+    ensures bits { IfOk result (λ bits. bits ≡ plain prepared.now.circuit prepared.now.inputs) }
+    ensures evaluates { OnOk result (Evaluates prepared.now.circuit order prepared.now.inputs
+        (E.left tape.old) (E.left tape.new) (W.told watch.old) (W.told watch.new)) }
+    ensures secure { TellsSecureCalls (W.told watch.old) (W.told watch.new) }
+    ensures left { OnErr result (E.left tape.new ≡ E.left tape.old) }
+    ensures told { OnErr result (W.told watch.new ≡ W.told watch.old) }
+    ensures failed { IfErr result (λ e. e ≡ Failed → Rose (E.faults tape.old) (E.faults tape.new)
+        × (E.wanted tape.new ≡ bytes_for (eval_bits prepared.now.circuit order)) × (1 ≤ E.wanted tape.new)) }
+    ensures idle { eval_bits prepared.now.circuit order ≡ 0 → tape.new ≡ tape.old }
+    ensures steps { steps.new ≤ steps.old + length prepared.now.circuit.gates }
+{
+    match order {
+        1 => evaluate::<2, E, W, L>(alloc, order, prepared, tape, watch, steps),
+        2 => evaluate::<3, E, W, L>(alloc, order, prepared, tape, watch, steps),
+        3 => evaluate::<4, E, W, L>(alloc, order, prepared, tape, watch, steps),
+        4 => evaluate::<5, E, W, L>(alloc, order, prepared, tape, watch, steps),
+        5 => evaluate::<6, E, W, L>(alloc, order, prepared, tape, watch, steps),
+        6 => evaluate::<7, E, W, L>(alloc, order, prepared, tape, watch, steps),
+        _ => evaluate::<8, E, W, L>(alloc, order, prepared, tape, watch, steps),
+    }
+}
+
+// Writes the bits in hexadecimal.
+fn send_bits<O: Sink>(alloc: Global, bits: &Bits, out: &mut O) -> Status
+    ensures prints { PrintsBits bits.now (O.written out.old) (O.written out.new) result }
+    ensures write_fault { result ≡ Status.WriteFault → Rose (O.faults out.old) (O.faults out.new) }
+    ensures unwritten { ComesBeforeWriting result → out.new ≡ out.old }
+{
+    match report(alloc, bits) {
+        Ok(line) => send(&line, out),
+        Err(_) => Status::NoMemory,
+    }
+}
