@@ -39,7 +39,7 @@ pub share_more : (N : ℕ) (set : ShareSet) (is_first needed : Bool) → set N �
     (numbers (members (suc N) set) ≡ numbers (members N set) ++ share_text N needed is_first) × ((is_first && not needed) ≡ is_nil (members (suc N) set))
 share_more N set is_first true e first = (
   ap numbers (members_in N set e) ∙ numbers-push (members N set) N
-  ∙ ap (λ (b : Bool). numbers (members N set) ++ cond b (decimal N) (32 ∷ decimal N)) (sym first),
+      ∙ ap (λ (b : Bool). numbers (members N set) ++ cond b (decimal N) (32 ∷ decimal N)) (sym first),
   and_false is_first ∙ sym (ap is_nil (members_in N set e) ∙ is_nil-push (members N set) N),
 )
   where

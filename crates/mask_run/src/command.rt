@@ -122,16 +122,7 @@ pub fn mask_main<K: Source, S: Source, E: Entropy, O: Sink, W: Watch, L: Ledger>
     // Each arm returns by itself, so that what it promises stands apart from the others.
     match job {
         Job::Eval { order } => {
-            return eval(
-                alloc,
-                order,
-                words.word(4),
-                input,
-                tape,
-                out,
-                watch,
-                steps,
-            );
+            return eval(alloc, order, words.word(4), input, tape, out, watch, steps);
         }
         Job::Check => return check(alloc, input, out, steps),
         Job::Upgrade => return upgrade(alloc, input, out),

@@ -63,12 +63,7 @@ pub fn probe<S: Source, O: Sink, L: Ledger>(
 }
 
 // The report on the wires that the words name.
-fn report(
-    alloc: Global,
-    order: u32,
-    circuit: &Admitted,
-    words: &Words,
-) -> Result<Vec<u8>, Status>
+fn report(alloc: Global, order: u32, circuit: &Admitted, words: &Words) -> Result<Vec<u8>, Status>
     requires some { 1 ≤ order }
     requires few { order ≤ 7 }
     requires words { ProbeWords words.now order }
@@ -157,12 +152,7 @@ fn lines_of(alloc: Global, shares: u32, needs: &Needs) -> Result<Vec<u8>, AllocE
 }
 
 // Appends the line of an input.
-fn add_line(
-    shares: u32,
-    needs: &Needs,
-    input: u32,
-    report: &mut Vec<u8>,
-) -> Result<(), AllocError>
+fn add_line(shares: u32, needs: &Needs, input: u32, report: &mut Vec<u8>) -> Result<(), AllocError>
     requires few { shares ≤ 8 }
     requires input { input < length needs.now }
     ensures { OnOk result (report.new.items ≡ report.old.items ++ need_line shares (has_share needs.now input) input) }

@@ -62,15 +62,15 @@ pub returns-in-Err-Failed-clause-ends : goal.returns-in-Err-Failed-clause-ends
 returns-in-Err-Failed-clause-ends g c text told =
     let failed = c.in-Err-Failed.ensures.failed c.in-Err-Failed.field-0-is in
     let outside : Outside =
-        record {
-          tape_before = g.E.Entropy.left c.args.tape.now;
-          tape_after = g.E.Entropy.left c.evaluated.new.tape;
-          wanted = g.E.Entropy.wanted c.evaluated.new.tape;
-          out_before = g.O.Sink.written c.args.out.now;
-          out_after = g.O.Sink.written c.args.out.now;
-          told_before = g.W.Watch.told c.args.watch.now;
-          told_after = g.W.Watch.told c.evaluated.new.watch;
-        } in
+    record {
+      tape_before = g.E.Entropy.left c.args.tape.now;
+      tape_after = g.E.Entropy.left c.evaluated.new.tape;
+      wanted = g.E.Entropy.wanted c.evaluated.new.tape;
+      out_before = g.O.Sink.written c.args.out.now;
+      out_after = g.O.Sink.written c.args.out.now;
+      told_before = g.W.Watch.told c.args.watch.now;
+      told_after = g.W.Watch.told c.evaluated.new.watch;
+    } in
     EvalEnds-undrawn text c.args.hex.now _ _ (c.in-Ok.ensures.ok text told).0 c.args.order outside failed.1 failed.2
     (c.in-Err-Failed.ensures.left, c.in-Err-Failed.ensures.told)
 

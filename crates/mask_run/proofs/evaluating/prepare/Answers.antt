@@ -23,8 +23,7 @@ returns-in-Ok-admitted-clause-ok g c text told =
     let found = c.in-Ok.ensures.ok text told in
     let same = sym c.in-Ok-admitted.ensures.same in
     let is = rw c.in-Ok-Some.field-0-is at c.in-Ok-Some.ensures in
-    let input = subst (λ (n : ℕ). IsInputOf c.args.hex.now n c.in-Ok-Some.inputs) c.inputs.ensures is in
-    (
+    let input = subst (λ (n : ℕ). IsInputOf c.args.hex.now n c.in-Ok-Some.inputs) c.inputs.ensures is in (
       record {
         stands = subst (λ (n : Netlist). Stands text n) same found.0;
         accepted = c.in-Ok-admitted.ensures.accepted;

@@ -23,6 +23,6 @@ returns-clause-bound c =
     let few = c.values-values.ensures.circuit.few_values in
     let kinds = few_draw c.args.circuit.now.gates in
     let bound = bits_bound c.args.order c.args.circuit.now.inputs (product_count c.args.circuit.now + refresh_count c.args.circuit.now) c.requires.few
-        (omega arith) (omega arith) in
+    (omega arith) (omega arith) in
     let inputs = ap (λ (n : ℕ). c.args.order * n) c.inputs.ensures in
     omega arith

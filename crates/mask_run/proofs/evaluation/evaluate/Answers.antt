@@ -12,7 +12,7 @@ returns-clause-evaluates g c =
     let drawn = c.in-Ok.ensures.drawn in
     let count = c.coin_count-count.ensures.bits ∙ ap (λ (n : Netlist). eval_bits n c.args.order) c.circuit-circuit.ensures.same in
     let call = drawn_call c.args.prepared.now.circuit c.args.order c.args.prepared.now.inputs c.new-2.result _ _ _ _ c.in-Ok.coins.words c.new-2.ensures
-        count c.args.prepared.now.just_enough drawn in
+    count c.args.prepared.now.just_enough drawn in
     record {
       fresh = drawn.fresh;
       count = call.0;

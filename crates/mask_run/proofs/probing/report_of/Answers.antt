@@ -12,9 +12,9 @@ returns-clause-ok g c =
     let shares : c.args.order + 1 ≡ g.row.N = omega arith in
     let found = c.in-Ok.ensures in
     let line =
-        c.in_ok-lines_of.ensures
-        ∙ ap (λ (n : ℕ). joined (λ v. need_line n (has_share c.in-Ok.needs v) v) (length c.in-Ok.needs)) shares
-        ∙ ap (joined (λ v. need_line g.row.N (has_share c.in-Ok.needs v) v)) found.count
-        ∙ lines-same g.row.N c.args.circuit.now.inputs (has_share c.in-Ok.needs) (need c.args.circuit.now g.row.N c.args.wires.now) found.need in
+    c.in_ok-lines_of.ensures
+    ∙ ap (λ (n : ℕ). joined (λ v. need_line n (has_share c.in-Ok.needs v) v) (length c.in-Ok.needs)) shares
+    ∙ ap (joined (λ v. need_line g.row.N (has_share c.in-Ok.needs v) v)) found.count
+    ∙ lines-same g.row.N c.args.circuit.now.inputs (has_share c.in-Ok.needs) (need c.args.circuit.now g.row.N c.args.wires.now) found.need in
     subst (λ (n : ℕ). IsNeedReport c.args.circuit.now n c.args.wires.now c.in_ok-lines_of.field-0.items) more
     (record { probes = found.asked; few_shares = found.few_shares; simulated = found.simulated; line = line })
