@@ -13,11 +13,14 @@ pub mod GateExamples
 pub mod Gates
 pub mod Keeping
 pub mod LocalNumbers
+pub mod Lookup
 pub mod Members
 pub mod Names
 pub mod Needs
 pub mod Numbering
+pub mod Operands
 pub mod OutputShares
+pub mod PairNumbers
 pub mod Probes
 pub mod Products
 pub mod Reaching

@@ -4,7 +4,7 @@ use Rattle.mask_circuit.specs.Ring.{words}
 use Rattle.mask_laws.specs.Names.{pair_number}
 use Rattle.mask_shares.specs.Sharing.{listed}
 use Rattle.mask_gadget.specs.Gadgets.{coins_of, pair_row}
-use Rattle.mask_gadget.proofs.Numbers.{small, pair_number-lt, length-pairs, pairs_before-all, pairs_before-more}
+use Rattle.mask_laws.proofs.PairNumbers.{small, pair_number-lt, length-pairs, pairs_before-all, pairs_before-more}
 use Rattle.mask_gadget.proofs.Pairs.{coin_at, pair_more, row_more}
 use Rattle.mask_gadget.proofs.product.push_pairs.Goals as goal
 

@@ -9,7 +9,7 @@ use Rattle.mask_shares.specs.Sharing.{listed}
 use Rattle.mask_shares.proofs.Lists.{is_each}
 use Rattle.mask_gadget.specs.Gadgets.{coins_of}
 use Rattle.mask_gadget.proofs.Made.{map-each}
-use Rattle.mask_gadget.proofs.Numbers.{small, pair_number-lt, length-pairs, pairs_before-all, pairs_before-more}
+use Rattle.mask_laws.proofs.PairNumbers.{small, pair_number-lt, length-pairs, pairs_before-all, pairs_before-more}
 use Rattle.mask_gadget.proofs.Pairs.{coin_at, row_more, column_more}
 use Rattle.mask_gadget.proofs.Refreshes.{update_names, row_begins, row_ends, pair_done, pair_wires, all_done, all_updates}
 use Rattle.mask_gadget.proofs.Lanes.{out_of_words, wires_of_words, length-lane}
