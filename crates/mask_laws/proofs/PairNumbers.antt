@@ -34,9 +34,10 @@ before-mono n i (suc m) lt = elim (below_cases i m lt) [
 pub length-pairs : (n : ℕ) → length (pairs n) ≡ pair_count n
 length-pairs n = let order = pairs_in_order n in order.count
 
-count-before : (n : ℕ) → pairs_before n n ≡ pair_count n
-count-before zero = refl
-count-before (suc n) =
+-- the rows before row n have all pairs
+pub pairs_before-count : (n : ℕ) → pairs_before n n ≡ pair_count n
+pairs_before-count zero = refl
+pairs_before-count (suc n) =
     let twice = twice_before (suc n) (suc n) (omega arith) in
     let one_less : suc n - 1 ≡ n = omega arith in
     sym (half (pairs_before (suc n) (suc n)) (suc n * (suc n - 1)) (rw one_less (omega arith)))
@@ -44,7 +45,7 @@ count-before (suc n) =
 -- the number of a pair is below their count
 pub pair_number-lt : (n i j : ℕ) → i < j → j < n → pair_number n i j < pair_count n
 pair_number-lt n i j low high =
-    let all = count-before n in
+    let all = pairs_before-count n in
     let here = before-mono n i n (omega arith) in
     omega arith
 
@@ -72,7 +73,7 @@ row-fits n i lt = let all : suc i * (n - 1) ≤ n * (n - 1) = mul-le-mul_right (
 
 -- all rows have all pairs
 pub pairs_before-all : (n i : ℕ) → i ≡ n → pairs_before n i ≡ length (pairs n)
-pairs_before-all n i e = rw e (count-before n ∙ sym (length-pairs n))
+pairs_before-all n i e = rw e (pairs_before-count n ∙ sym (length-pairs n))
 
 -- one row more
 pub pairs_before-more : (n i : ℕ) → pairs_before n (i + 1) ≡ pairs_before n i + (n - suc i)

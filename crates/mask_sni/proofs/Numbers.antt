@@ -1,30 +1,12 @@
 -- The local numbers of a product and of a refresh, read back.
-use Rattle.std.proofs.Common.{◌≡◌, ℕ, zero, suc, ◌+◌, ◌-◌, ◌*◌, ◌/◌, ◌%◌, ◌<◌, ◌≤◌, List, length, slice_get, slice_index_or, Some, arith, lit≤, refl, sym, add-one}
+use Rattle.std.proofs.Common.{◌≡◌, ℕ, zero, suc, ◌+◌, ◌-◌, ◌*◌, ◌/◌, ◌%◌, ◌<◌, ◌≤◌, List, length, slice_get, slice_index_or, Some, arith, refl, sym}
 use Rattle.std.proofs.Math.Nat.{div-lt_iff_lt-mul}
 use Rattle.std.proofs.lemmas.Option.{get_or_from_slice_get}
 use Rattle.std.proofs.lemmas.Nat.{div-add-mod'}
 use Rattle.mask_circuit.specs.Wires.{Wire, Share, Product, Fresh, Left, Right, other, row_wire, product_names, refresh_names}
 use Rattle.mask_laws.specs.Names.{IsPair, pairs_before, pair_number, pair_count}
 use Rattle.mask_laws.proofs.LocalNumbers.{product_in_order, refresh_in_order}
-
--- twice the number of pairs in the rows before row i, and so all of them
-twice_before : (n i : ℕ) → i ≤ n → 2 * pairs_before n i + i * suc i ≡ 2 * (i * n)
-twice_before n zero le = omega arith
-twice_before n (suc i) le = let up = twice_before n i (omega arith) in omega arith
-
-half : (a b : ℕ) → 2 * a ≡ b → b / 2 ≡ a
-half a b e = omega arith
-
-pub pairs_before-all : (n : ℕ) → pairs_before n n ≡ pair_count n
-pairs_before-all zero = refl
-pairs_before-all (suc n) =
-    let twice = twice_before (suc n) (suc n) (omega arith) in
-    let one_less : suc n - 1 ≡ n = omega arith in
-    sym (half (pairs_before (suc n) (suc n)) (suc n * (suc n - 1)) (rw one_less (omega arith)))
-
--- one row more
-pub pairs_before-more : (n i : ℕ) → pairs_before n (i + 1) ≡ pairs_before n i + (n - suc i)
-pairs_before-more n i = rw (add-one i) refl
+use Rattle.mask_laws.proofs.PairNumbers.{pairs_before-count}
 
 after_row : (n i m : ℕ) → m ≡ suc i → pairs_before n m ≡ pairs_before n i + (n - suc i)
 after_row n i m e = rw e refl
@@ -37,27 +19,9 @@ row_left n i p rest lt low e le = go (n - suc i) refl
     go (suc d) is = omega arith
     go zero is =
         let last : n ≡ suc i = omega arith in
-        let all = pairs_before-all n in
+        let all = pairs_before-count n in
         let more = after_row n i n last in
         omega arith
-
--- the parts of a product's wires, for up to 8 shares
-pub record Small (n : ℕ) : Type 0 where
-  pub terms : n * n ≤ 64
-  pub pairs : pair_count n ≤ 28
-  pub rows : n * (n - 1) ≤ 56
-
-pub small : (n : ℕ) → n ≤ 8 → Small n
-small zero le = record { terms = lit≤ tt; pairs = lit≤ tt; rows = lit≤ tt }
-small (suc zero) le = record { terms = lit≤ tt; pairs = lit≤ tt; rows = lit≤ tt }
-small (suc (suc zero)) le = record { terms = lit≤ tt; pairs = lit≤ tt; rows = lit≤ tt }
-small (suc (suc (suc zero))) le = record { terms = lit≤ tt; pairs = lit≤ tt; rows = lit≤ tt }
-small (suc (suc (suc (suc zero)))) le = record { terms = lit≤ tt; pairs = lit≤ tt; rows = lit≤ tt }
-small (suc (suc (suc (suc (suc zero))))) le = record { terms = lit≤ tt; pairs = lit≤ tt; rows = lit≤ tt }
-small (suc (suc (suc (suc (suc (suc zero)))))) le = record { terms = lit≤ tt; pairs = lit≤ tt; rows = lit≤ tt }
-small (suc (suc (suc (suc (suc (suc (suc zero))))))) le = record { terms = lit≤ tt; pairs = lit≤ tt; rows = lit≤ tt }
-small (suc (suc (suc (suc (suc (suc (suc (suc zero)))))))) le = record { terms = lit≤ tt; pairs = lit≤ tt; rows = lit≤ tt }
-small (suc (suc (suc (suc (suc (suc (suc (suc (suc n))))))))) le = absurd (omega arith)
 
 -- a quotient is below what its number is below in whole parts
 pub row_below : (p n k : ℕ) → 0 < k → p < n * k → p / k < n

@@ -4,7 +4,7 @@ use Rattle.mask_circuit.specs.Wires.{Pair, product_names}
 use Rattle.mask_circuit.specs.Shift.{product_mask}
 use Rattle.mask_laws.proofs.Symmetry.{mask_is_symmetric}
 use Rattle.mask_sni.specs.Asked.{operand_shares, operand_sides, in_places, number_of, wires_at}
-use Rattle.mask_sni.proofs.Numbers.{small}
+use Rattle.mask_laws.proofs.PairNumbers.{small}
 use Rattle.mask_sni.proofs.Masks.{mask_more, mask_all, small_more, small_power}
 use Rattle.mask_sni.proofs.products.and_shift.Goals as goal
 

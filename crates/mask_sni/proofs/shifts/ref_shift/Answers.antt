@@ -4,7 +4,7 @@ use Rattle.mask_circuit.specs.Wires.{Pair, refresh_names}
 use Rattle.mask_circuit.specs.Shift.{refresh_mask}
 use Rattle.mask_laws.proofs.Symmetry.{mask_is_symmetric}
 use Rattle.mask_sni.specs.Asked.{bit_shares, in_places, number_of, wires_at}
-use Rattle.mask_sni.proofs.Numbers.{small}
+use Rattle.mask_laws.proofs.PairNumbers.{small}
 use Rattle.mask_sni.proofs.Masks.{mask_more, mask_all, small_more, small_power}
 use Rattle.mask_sni.proofs.shifts.ref_shift.Goals as goal
 

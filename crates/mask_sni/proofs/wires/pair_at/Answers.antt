@@ -1,5 +1,6 @@
 use Rattle.std.proofs.Common.{arith}
-use Rattle.mask_sni.proofs.Numbers.{row_left, pairs_before-more}
+use Rattle.mask_laws.proofs.PairNumbers.{pairs_before-more}
+use Rattle.mask_sni.proofs.Numbers.{row_left}
 use Rattle.mask_sni.proofs.wires.pair_at.Goals as goal
 
 -- another row has the pair, so there is one
