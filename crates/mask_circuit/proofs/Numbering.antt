@@ -10,7 +10,7 @@ use Rattle.std.proofs.lemmas.Option.{slice_get-map, slice_get-get_or}
 use Rattle.mask_circuit.specs.declared.gates.Gate.{Gate}
 use Rattle.mask_circuit.specs.declared.gates.Gate.TheVariants.{Zero, One, Xor, Not, And, Ref}
 use Rattle.mask_circuit.specs.Netlist.{Netlist, value_count}
-use Rattle.mask_circuit.specs.Wires.{Wire, Share, each, joined, gate_names, product_names, refresh_names}
+use Rattle.mask_circuit.specs.Wires.{Wire, Share, each, joined, share_names, gate_names, product_names, refresh_names}
 use Rattle.mask_circuit.specs.Acceptance.{gate_at}
 use Rattle.mask_circuit.specs.Expansion.{Place, names, names_from, names_by, names_of, wires_before, wire_count}
 use Rattle.mask_circuit.proofs.GateAt.{AreGatesAt, AreGatesAt-all, gate_at_input}
@@ -89,6 +89,14 @@ wires_before-inputs c N (suc v) le =
     let up = wires_before-inputs c N v (omega arith) in
     let here : length (names_of c N v) ≡ N = ap (λ o. length (names_by N o)) (gate_at_input c v (omega arith)) ∙ length-each Share N in
     omega arith
+
+-- a gate that acts share by share has its shares alone
+pub gate_names-by_share : (n : ℕ) (g : Gate) → (g ≡ Zero) ⊎ ((g ≡ One) ⊎ (((x : ℕ) × (y : ℕ) × (g ≡ Xor x y)) ⊎ ((x : ℕ) × (g ≡ Not x)))) →
+    gate_names n g ≡ share_names n
+gate_names-by_share n g (inl e) = rw e refl
+gate_names-by_share n g (inr (inl e)) = rw e refl
+gate_names-by_share n g (inr (inr (inl (x, y, e)))) = rw e refl
+gate_names-by_share n g (inr (inr (inr (x, e)))) = rw e refl
 
 -- the wires of a product of 2 to 8 shares ..
 pub length-product_names : (n : ℕ) → 2 ≤ n → n ≤ 8 → n * n + 3 * (n * (n - 1) / 2) + n * (n - 1) ≡ length (product_names n)

@@ -36,7 +36,7 @@ shape-below N (And u v) (Share i) h = h
 shape-below N (Ref u) (Share i) h = h
 shape-below N g w h = tt
 
-gate_names-below : (N : ℕ) (g : Gate) → 2 ≤ N → All (IsShareBelow N) (gate_names N g)
+pub gate_names-below : (N : ℕ) (g : Gate) → 2 ≤ N → All (IsShareBelow N) (gate_names N g)
 gate_names-below N g two = All-weaker (Contains (gate_names N g)) (IsShareBelow N) (λ w k. shape-below N g w ((gate_names-by_shape N g w two).0 k))
     (gate_names N g) (All-contains_itself (gate_names N g))
 

@@ -1,8 +1,11 @@
 pub mod Asked
+pub mod Demanding
 pub mod Gates
 pub mod Locating
 pub mod Masked
+pub mod OwnProbes
 pub mod Packing
 pub mod PlaceLists
+pub mod ShareSets
 pub mod Shifted
 pub mod Walking

@@ -24,7 +24,7 @@ length-members set (suc n) = go (length-members set n) (set n) refl
     go up true e = rw (filter-append set (each (λ (k : ℕ). k) n) (n ∷ []), e, length-append (members n set) (n ∷ []), up) refl
     go up false e = rw (filter-append set (each (λ (k : ℕ). k) n) (n ∷ []), e, append-nil (members n set), up) (omega arith)
 
-length-wires_at : (names : List Wire) (P : List ℕ) → length (wires_at names P) ≡ length P
+pub length-wires_at : (names : List Wire) (P : List ℕ) → length (wires_at names P) ≡ length P
 length-wires_at names P = length-map P (λ (p : ℕ). slice_index_or names p (Share 0))
 
 -- the needs are no more than the probes
