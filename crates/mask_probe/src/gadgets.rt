@@ -8,7 +8,7 @@ ghost use Rattle.mask_laws.specs.Names.{pair_number};
 ghost use Rattle.mask_sni.specs.Asked.{bit_shares};
 ghost use Rattle.mask_probe.specs.Sides.{byte_shares, bits_from, fresh_from, IsOutput};
 
-use crate::sides::{share_of, with_share};
+use crate::sides::{append_share, share_of};
 use mask_bits::Bits;
 use mask_circuit::Gate;
 
@@ -28,7 +28,7 @@ pub(crate) fn gate_shares<const N: usize>(
 {
     let mut output = 0;
     for i in 0..N {
-        output = with_share(output, i, gate_share::<N>(gate, shares, tape, start, i));
+        output = append_share(output, i, gate_share::<N>(gate, shares, tape, start, i));
     }
     output
 }

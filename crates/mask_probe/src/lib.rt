@@ -5,9 +5,15 @@ mod demands;
 mod errors;
 mod gadgets;
 mod inner;
+mod masks;
 mod places;
 mod sets;
 mod shifting;
 mod sides;
+mod tapes;
 
 pub use errors::ProbeError;
+pub use tapes::shift_tape;
+
+#[cfg(test)]
+mod tests;

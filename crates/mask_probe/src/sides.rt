@@ -16,7 +16,7 @@ pub(crate) fn share_of(shares: u8, i: usize) -> bool
 }
 
 /// The shares before share i, with share i.
-pub(crate) fn with_share(shares: u8, i: usize, share: bool) -> u8
+pub(crate) fn append_share(shares: u8, i: usize, share: bool) -> u8
     requires below { shares < 2 ^ i }
     requires few { i < 8 }
     ensures value { result ≡ shares + cond share (2 ^ i) 0 }
@@ -52,7 +52,7 @@ fn input_of<const N: usize>(bits: &Bits, value: u32) -> u8
 {
     let mut shares = 0;
     for i in 0..N {
-        shares = with_share(shares, i, bits.get(N * value as usize + i));
+        shares = append_share(shares, i, bits.get(N * value as usize + i));
     }
     shares
 }

@@ -9,8 +9,8 @@ pub loop-i-preserved : goal.loop-i-preserved
 loop-i-preserved g c =
     let f : ℕ → Bool = λ i. gate_wire bits g.row.N c.args.gate (byte_shares c.args.shares.now) (bits_from c.args.tape.now c.args.start (gate_draws g.row.N c.args.gate)) (Share i) in
     record {
-      bits = number_more f c.loop-i.i c.loop-i.output c.with_share-output.result c.gate_share.result c.loop-i.invariant.bits c.gate_share.ensures c.with_share-output.ensures.value;
-      small = c.with_share-output.ensures.below;
+      bits = number_more f c.loop-i.i c.loop-i.output c.append_share-output.result c.gate_share.result c.loop-i.invariant.bits c.gate_share.ensures c.append_share-output.ensures.value;
+      small = c.append_share-output.ensures.below;
     }
 
 pub returns : goal.returns

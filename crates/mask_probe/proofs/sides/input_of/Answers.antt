@@ -5,9 +5,9 @@ use Rattle.mask_probe.proofs.sides.input_of.Goals as goal
 
 pub loop-i-preserved : goal.loop-i-preserved
 loop-i-preserved g c = record {
-  bits = number_more (input_shares g.row.N c.args.bits.now c.args.value) c.loop-i.i c.loop-i.shares c.with_share-shares.result c.get.result c.loop-i.invariant.bits
-      c.get.ensures c.with_share-shares.ensures.value;
-  small = c.with_share-shares.ensures.below;
+  bits = number_more (input_shares g.row.N c.args.bits.now c.args.value) c.loop-i.i c.loop-i.shares c.append_share-shares.result c.get.result c.loop-i.invariant.bits
+      c.get.ensures c.append_share-shares.ensures.value;
+  small = c.append_share-shares.ensures.below;
 }
 
 pub returns : goal.returns
