@@ -1,6 +1,6 @@
 -- Which shares are demanded, gate by gate.
 use Rattle.std.proofs.Common.{◌≡◌, ℕ, zero, suc, ◌+◌, ◌<◌, false, ◌&&◌, ◌||◌, ◌==◌, ◌⊎◌, inl, inr, List, [], ◌∷◌, length, drop, slice_index, slice_index_or, slice_set, All, bit_or, refl, ap, ap₂, sym, ◌∙◌, subst, arith, add-zero, eq-eqb, ne_eqb, get_or-set_same, get_or-set_other, drop-cons}
-use Rattle.std.proofs.Math.Seq.{drop-length, drop-nil}
+use Rattle.std.proofs.Math.Seq.{drop-nil}
 use Rattle.std.proofs.lemmas.Bool.{cases_eq}
 use Rattle.std.proofs.lemmas.Option.{slice_get-get_or}
 use Rattle.mask_circuit.specs.declared.gates.Gate.{Gate}
@@ -8,7 +8,7 @@ use Rattle.mask_circuit.specs.declared.gates.Gate.TheVariants.{Zero, One, Xor, N
 use Rattle.mask_circuit.specs.Netlist.{Netlist, AreGates, OperandsBelow, value_count}
 use Rattle.mask_circuit.specs.Wires.{Wire}
 use Rattle.mask_circuit.specs.Expansion.{Place}
-use Rattle.mask_circuit.specs.Need.{ShareSet, is_share, demand, inner_probes, need_from, probed_shares}
+use Rattle.mask_circuit.specs.Need.{ShareSet, is_share, demand, inner_probes, need_from}
 use Rattle.mask_circuit.specs.Acceptance.{IsAccepted}
 use Rattle.mask_circuit.proofs.GateAt.{AreGatesAt-all, gate_at_gate, gate_at_operands}
 use Rattle.mask_laws.specs.Circuits.{FitsAt, FitsFrom}
@@ -18,7 +18,7 @@ use Rattle.mask_laws.specs.Gadgets.{FitsGate}
 use Rattle.mask_sni.specs.Asked.{AreAsked, bit_shares, in_places, members, wires_at}
 use Rattle.mask_sni.proofs.Members.{length-members, length-wires_at}
 use Rattle.mask_probe.specs.Asking.{has_share}
-use Rattle.mask_probe.proofs.ShareSets.{All-members, bit_shares-none, bit_shares-or, in_places-members, or_false}
+use Rattle.mask_probe.proofs.ShareSets.{All-members, bit_shares-or, in_places-members, or_false}
 
 -- a value that gets more shares
 pub has_share-add : (sets : List ℕ) (u shares v i : ℕ) → u < length sets →
@@ -63,20 +63,6 @@ FitsFrom-drop N P (g ∷ gs) n (suc k) fits =
 pub record AreDemanded (c : Netlist) (N : ℕ) (P : List Place) (k : ℕ) (sets : List ℕ) : Type 0 where
   pub count : length sets ≡ value_count c
   pub shares : (v i : ℕ) → v < value_count c → i < N → has_share sets v i ≡ need_from P (drop k c.gates) (c.inputs + k) v i
-
--- past the last gate these are the probed shares
-pub demanded_last : (c : Netlist) (N : ℕ) (P : List Place) (k : ℕ) (sets : List ℕ) → k ≡ length c.gates → length sets ≡ value_count c →
-    ((v i : ℕ) → v < value_count c → i < N → has_share sets v i ≡ probed_shares P v i) → AreDemanded c N P k sets
-demanded_last c N P k sets last count probed = record {
-  count = count;
-  shares = λ v i known lt. probed v i known lt ∙ ap (λ gs. need_from P gs (c.inputs + k) v i) (sym (drop-length c.gates) ∙ ap (λ m. drop m c.gates) (sym last));
-}
-
--- before the first all that is demanded
-pub demanded_all : (c : Netlist) (N : ℕ) (P : List Place) (k : ℕ) (sets : List ℕ) → k ≡ 0 → AreDemanded c N P k sets → (v i : ℕ) → v < value_count c → i < N →
-    has_share sets v i ≡ need_from P c.gates c.inputs v i
-demanded_all c N P k sets first so_far v i known lt = so_far.shares v i known lt
-    ∙ rw first (ap (λ n. need_from P c.gates n v i) (add-zero c.inputs))
 
 -- the same with the first of these gates apart
 past : (c : Netlist) (P : List Place) (k v i : ℕ) → need_from P (drop (suc k) c.gates) (c.inputs + suc k) v i ≡ need_from P (drop (suc k) c.gates) (suc (c.inputs + k)) v i
@@ -129,9 +115,3 @@ pub needs_set : (N : ℕ) (need : List Wire → ShareSet) (names own : List Wire
 needs_set N need names own inner items Q set e wires is made i lt =
     made i ∙ ap (λ O. in_places O i) is ∙ in_places-members N (need (wires_at names inner)) i lt
     ∙ ap (λ ns. need (wires_at ns inner) i) (sym e) ∙ ap (λ W. need W i) wires
-
--- no inner probes need nothing
-pub needs_none : (need : List Wire → ShareSet) (own : List Wire) (inner : List ℕ) (Q : List Wire) (i : ℕ) → need [] i ≡ false → inner ≡ [] → wires_at own inner ≡ Q →
-    bit_shares 0 i ≡ need Q i
-needs_none need own inner Q i none empty wires =
-    bit_shares-none i ∙ sym none ∙ ap (λ W. need W i) (ap (wires_at own) (sym empty) ∙ wires)

@@ -1,8 +1,8 @@
 -- Where probes stand, probe by probe.
-use Rattle.std.proofs.Common.{◌≡◌, ℕ, ◌+◌, ◌<◌, List, [], ◌∷◌, ◌++◌, length, take, slice_get, slice_index, slice_index_or, Some, refl, sym, ◌∙◌, add-one}
+use Rattle.std.proofs.Common.{◌≡◌, ℕ, ◌+◌, ◌<◌, List, [], ◌∷◌, ◌++◌, length, take, slice_get, slice_index, slice_index_or, Some, sym, ◌∙◌, add-one}
 use Rattle.std.proofs.Math.Seq.{take-suc}
 use Rattle.std.proofs.lemmas.List.{map-append}
-use Rattle.std.proofs.lemmas.List.Elements.{All-nil, All-push}
+use Rattle.std.proofs.lemmas.List.Elements.{All-push}
 use Rattle.std.proofs.lemmas.Option.{get_or_from_slice_get}
 use Rattle.mask_circuit.specs.Netlist.{Netlist, value_count}
 use Rattle.mask_circuit.specs.Wires.{Share}
@@ -17,13 +17,6 @@ pub record AreLocated (c : Netlist) (N : ℕ) (P : List ℕ) (placed : List Plac
   pub wires : ArePlaces c N P
   pub places : places_of c N placed ≡ probes_at c N P
   pub known : ArePlaced c N placed
-
-pub located_none : (c : Netlist) (N : ℕ) → AreLocated c N [] []
-located_none c N = record {
-  wires = All-nil (λ p. p < wire_count c N);
-  places = refl;
-  known = All-nil (λ p. (p.value < value_count c) × (p.part < length (names_of c N p.value)));
-}
 
 -- the wire of a place by number and by name
 pub record IsWireAt (c : Netlist) (N number : ℕ) (p : Placed) : Type 0 where

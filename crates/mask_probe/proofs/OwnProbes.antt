@@ -6,7 +6,7 @@ use Rattle.std.specs.Option.{is_some}
 use Rattle.std.proofs.Math.Seq.{take-suc}
 use Rattle.std.proofs.lemmas.Bool.{and_from, and_right}
 use Rattle.std.proofs.lemmas.List.{map-append}
-use Rattle.std.proofs.lemmas.List.Elements.{All-get_or, All-nil, All-push}
+use Rattle.std.proofs.lemmas.List.Elements.{All-get_or, All-push}
 use Rattle.std.proofs.lemmas.Option.{get_or_from_slice_get}
 use Rattle.mask_circuit.specs.declared.gates.Gate.{Gate}
 use Rattle.mask_circuit.specs.Netlist.{Netlist, value_count}
@@ -24,6 +24,7 @@ use Rattle.mask_probe.specs.declared.places.Placed.{Placed}
 
 -- SHARES
 
+-- the number of a share below N
 number_below : (N : ℕ) (w : Wire) → IsShareBelow N w → IfSome (share_number w) (λ i. i < N)
 number_below N (Share i) h = h
 number_below N (Product i j) h = tt
@@ -49,13 +50,6 @@ pub record AreInner (c : Netlist) (N v : ℕ) (placed : List Placed) (parts : Li
   pub local : All (λ p. p < length (names_of c N v)) parts
   pub inner : All (λ w. is_share w ≡ false) (wires_at (names_of c N v) parts)
 
-pub inner_none : (c : Netlist) (N v : ℕ) → AreInner c N v [] []
-inner_none c N v = record {
-  wires = refl;
-  local = All-nil (λ p. p < length (names_of c N v));
-  inner = All-nil (λ w. is_share w ≡ false);
-}
-
 -- the probe in place k
 abbrev pub placed_at : List Placed → ℕ → Placed
 placed_at placed k = slice_index_or placed k (record { value = 0; part = 0 })
@@ -72,6 +66,7 @@ inner_probes-more c N v placed k lt =
 pub not_inner_elsewhere : (c : Netlist) (N v : ℕ) (p : Placed) → (p.value ≡ v → ⊥) → is_inner_at v (place_of c N p) ≡ false
 not_inner_elsewhere c N v p other = ap (λ b. b && not (is_share (place_of c N p).1)) (ne_eqb p.value v other)
 
+-- the place of a probe of the value
 own_place : (c : Netlist) (N v : ℕ) (p : Placed) → p.value ≡ v → place_of c N p ≡ (v, slice_index_or (names_of c N v) p.part (Share 0))
 own_place c N v p here = ap (λ u. (u, slice_index_or (names_of c N u) p.part (Share 0))) here
 

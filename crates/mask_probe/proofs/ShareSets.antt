@@ -1,12 +1,11 @@
 -- Sets of shares as numbers.
-use Rattle.std.proofs.Common.{◌≡◌, ℕ, zero, suc, ◌+◌, ◌*◌, ◌%◌, ◌^◌, ◌<◌, ◌≤◌, Bool, true, false, ◌&&◌, ◌||◌, ◌==◌, ◌⊎◌, inl, inr, max, bit_or, w8, List, [], ◌∷◌, All, length, take, slice_index, refl, sym, ap, ap₂, ◌∙◌, arith, eq-eqb, ne_eqb, add-one}
+use Rattle.std.proofs.Common.{◌≡◌, ℕ, zero, suc, ◌*◌, ◌%◌, ◌^◌, ◌<◌, ◌≤◌, Bool, true, false, ◌&&◌, ◌||◌, ◌==◌, ◌⊎◌, inl, inr, max, bit_or, w8, List, [], ◌∷◌, All, refl, sym, ap, ap₂, ◌∙◌, arith, eq-eqb, ne_eqb}
 use Rattle.std.specs.Int.{bit_at}
-use Rattle.std.proofs.Math.Seq.{take-suc}
 use Rattle.std.proofs.lemmas.Bool.{and_right, cases_eq, or_right}
 use Rattle.std.proofs.lemmas.List.{append-nil}
 use Rattle.std.proofs.lemmas.List.Elements.{All-filter, All-weaker, filter-append}
 use Rattle.std.proofs.lemmas.List.Folds.{list_any-append}
-use Rattle.std.proofs.lemmas.Nat.Bits.{bit_at_or, bit_at-lt, bit_at-zero, bit_at_set_same, bit_at_set_other}
+use Rattle.std.proofs.lemmas.Nat.Bits.{bit_at_or, bit_at-lt, bit_at_set_same, bit_at_set_other}
 use Rattle.mask_circuit.specs.Wires.{each}
 use Rattle.mask_circuit.specs.Need.{ShareSet}
 use Rattle.mask_circuit.proofs.Places.{below_cases}
@@ -18,13 +17,10 @@ pub or_false : (a : Bool) → a ≡ (a || false)
 or_false true = refl
 or_false false = refl
 
+-- and true takes nothing
 and_true : (a : Bool) → (a && true) ≡ a
 and_true true = refl
 and_true false = refl
-
--- the empty set
-pub bit_shares-none : (i : ℕ) → bit_shares 0 i ≡ false
-bit_shares-none i = rw (bit_at-zero i) refl
 
 -- a share more
 pub bit_shares-with : (set share i : ℕ) → share < 8 → bit_shares (bit_or set (1 * 2 ^ share % 256)) i ≡ (bit_shares set i || share == i)
@@ -47,16 +43,11 @@ bit_shares-or a b i = ap (λ m. m == 1) (bit_at_or a b i) ∙ larger (bit_at a i
     larger zero (suc (suc y)) lx ly = absurd (omega arith)
     larger (suc zero) (suc (suc y)) lx ly = absurd (omega arith)
 
--- one share more of a list
-pub in_places-more : (O : List ℕ) (k i : ℕ) (set : ℕ) → k < length O → bit_shares set i ≡ in_places (take k O) i →
-    (bit_shares set i || slice_index O k == i) ≡ in_places (take (k + 1) O) i
-in_places-more O k i set lt so_far = rw (add-one k, take-suc O k 0 lt, list_any-append (λ m. m == i) (take k O) (slice_index O k ∷ []), so_far)
-    (ap (λ b. in_places (take k O) i || b) (or_false (slice_index O k == i)))
-
 -- the members of a set are below its bound, and stand for it there
 pub All-members : (n : ℕ) (set : ShareSet) → All (λ i. i < n) (members n set)
 All-members n set = All-filter set (λ i. i < n) (each (λ i. i) n) (All-each (λ i. i < n) (λ i. i) n (λ i lt. lt))
 
+-- one number more
 one_more : (n : ℕ) (set : ShareSet) (i : ℕ) → in_places (members (suc n) set) i ≡ (in_places (members n set) i || (set n && n == i))
 one_more n set i = go (set n) refl
   where
@@ -65,6 +56,7 @@ one_more n set i = go (set n) refl
         (ap (λ b. in_places (members n set) i || b) (sym (or_false (n == i))))
     go false e = rw (filter-append set (each (λ (k : ℕ). k) n) (n ∷ []), e, append-nil (members n set)) (or_false _)
 
+-- no member is above the bound
 none_above : (n : ℕ) (set : ShareSet) (i : ℕ) → n ≤ i → in_places (members n set) i ≡ false
 none_above zero set i le = refl
 none_above (suc n) set i le = one_more n set i ∙ ap₂ (λ a b. a || (set n && b)) (none_above n set i (omega arith)) (ne_eqb n i (λ e. omega arith)) ∙ and_right (set n) false refl

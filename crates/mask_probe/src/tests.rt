@@ -1,6 +1,6 @@
 ghost use Rattle.std.specs.Prelude.{◌≡◌, ◌<◌};
 
-use super::shift_tape;
+use super::{Needs, ProbeError, needs, shift_tape};
 use mask_bits::Bits;
 use mask_check::{AdmitError, Admitted, admit};
 use mask_circuit::{Builder, Circuit, Steps};
@@ -22,6 +22,68 @@ fn counted_admit<L: Ledger>(
     admit(alloc, circuit, &mut steps)
 }
 
+fn try_admit(alloc: Global, circuit: Circuit) -> Result<Admitted, AdmitError> {
+    counted_admit::<Brand>(alloc, Blank::new(1), circuit)
+}
+
+// The product of two inputs, of which the second is refreshed or not.
+fn product(rt: &HostRuntime, refreshed: bool) -> Result<Admitted, Fail> {
+    let mut builder = Builder::new(rt.alloc(), 2)?;
+    if builder.values() == 2 {
+        let right = if refreshed { builder.refresh(1)? } else { 1 };
+        let product = builder.and(0, right)?;
+        builder.out(product)?;
+    }
+    Ok(try_admit(rt.alloc(), builder.finish())?)
+}
+
+// Which of the first three shares of an input are needed.
+fn shares(needs: &Needs, input: u32) -> Option<[bool; 3]> {
+    if input >= needs.inputs() {
+        return None;
+    }
+    Some([
+        needs.has(input, 0),
+        needs.has(input, 1),
+        needs.has(input, 2),
+    ])
+}
+
+// On two shares wire 8 is a_0 · b_1: it needs share 0 of the first input, and of the second none, since that is
+// refreshed.
+#[test]
+fn a_refresh_takes_needs_away(rt: HostRuntime) -> Result<(), Fail> {
+    let circuit = product(&rt, true)?;
+    let found = needs::<2>(rt.alloc(), &circuit, [8].as_slice())?;
+    assert!(rt; shares(&found, 0) == Some([true, false, false]));
+    assert!(rt; shares(&found, 1) == Some([false, false, false]));
+    assert!(rt; shares(&found, 2).is_none());
+    Ok(())
+}
+
+// On three shares wire 24 is the first partial sum of share 0 and wire 16 is v_01; wire 25 is output share 0.
+#[test]
+fn inner_probes_of_a_product_need_shares(rt: HostRuntime) -> Result<(), Fail> {
+    let circuit = product(&rt, false)?;
+    let inner = needs::<3>(rt.alloc(), &circuit, [24, 16].as_slice())?;
+    assert!(rt; shares(&inner, 0) == Some([true, false, false]));
+    assert!(rt; shares(&inner, 1) == Some([true, true, false]));
+    let output = needs::<3>(rt.alloc(), &circuit, [25].as_slice())?;
+    assert!(rt; shares(&output, 0) == Some([false, false, false]));
+    assert!(rt; shares(&output, 1) == Some([false, false, false]));
+    Ok(())
+}
+
+#[test]
+fn refuses_too_many_probes_and_what_is_no_wire(rt: HostRuntime) -> Result<(), Fail> {
+    let circuit = product(&rt, true)?;
+    let many = needs::<2>(rt.alloc(), &circuit, [8, 9].as_slice()).err();
+    assert!(rt; many == Some(ProbeError::TooManyProbes));
+    let past = needs::<2>(rt.alloc(), &circuit, [16].as_slice()).err();
+    assert!(rt; past == Some(ProbeError::NoSuchWire { place: 0 }));
+    Ok(())
+}
+
 // A refresh of one input. On two shares wires 0 and 1 are the shares of the input, wire 2 is the fresh bit, and wires 3
 // and 4 are the new shares.
 fn refresh(alloc: Global) -> Result<Admitted, Fail> {
@@ -31,7 +93,7 @@ fn refresh(alloc: Global) -> Result<Admitted, Fail> {
         builder.out(fresh)?;
     }
     let circuit = builder.finish();
-    Ok(counted_admit::<Brand>(alloc, Blank::new(1), circuit)?)
+    Ok(try_admit(alloc, circuit)?)
 }
 
 // The tape for shares 1, 1 on which a probe on the first new share sees what it sees on shares 0, 0 with tape 0.
