@@ -6,14 +6,8 @@ use Rattle.mask_circuit.specs.declared.gates.Gate.TheVariants.{Zero, And, Ref}
 use Rattle.mask_circuit.specs.Wires.{Wire, Share, Product, Fresh, Left, Right, Partial, Shares, row_sum, cross, product_wire, product_names, fresh_between, refresh_wire, refresh_names, share_names}
 use Rattle.mask_laws.specs.Names.{IsProductName, IsRefreshName, IsShareName}
 use Rattle.mask_laws.proofs.Names.{gate_names-by_shape}
-use Rattle.mask_laws.proofs.Members.{Contains-first, Contains-later}
+use Rattle.mask_laws.proofs.Operands.{map-same_in}
 use Rattle.mask_gadget.proofs.Rows.{row_sum-same}
-
--- the same at each element of a list
-map-same_in : {A B : Type 0} (f g : A → B) (xs : List A) → ((x : A) → Contains xs x → f x ≡ g x) → map f xs ≡ map g xs
-map-same_in f g [] same = refl
-map-same_in f g (x ∷ xs) same =
-    rw (same x (Contains-first x xs), map-same_in f g xs (λ y h. same y (Contains-later x xs y h))) refl
 
 -- an output share is a wire of a product, and of a refresh
 product_share : (n : ℕ) (w : Wire) → IsShareName n w → IsProductName n w

@@ -1,8 +1,6 @@
 pub mod Agreeing
 pub mod Lanes
-pub mod Lookup
 pub mod Made
-pub mod Numbers
 pub mod Pairs
 pub mod Products
 pub mod Refreshes

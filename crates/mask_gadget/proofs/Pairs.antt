@@ -6,9 +6,9 @@ use Rattle.mask_circuit.specs.Wires.{Pair, Shares, joined, row_pairs, pairs, fre
 use Rattle.mask_laws.specs.Names.{pair_number}
 use Rattle.mask_tape.specs.Drawn.{Drawn}
 use Rattle.mask_gadget.specs.Gadgets.{coins_of, pair_names, pair_row}
-use Rattle.mask_gadget.proofs.Lookup.{fresh_of-at}
+use Rattle.mask_laws.proofs.Lookup.{fresh_of-at}
 use Rattle.mask_gadget.proofs.Made.{flat_map-each, flat_map-joined, joined-same, joined-more}
-use Rattle.mask_gadget.proofs.Numbers.{length-pairs, pair_number-lt}
+use Rattle.mask_laws.proofs.PairNumbers.{length-pairs, pair_number-lt}
 
 -- the coin of a pair
 pub coin_at : (coins : Drawn) (n i j : ℕ) → i < j → j < n →

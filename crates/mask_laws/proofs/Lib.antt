@@ -4,7 +4,6 @@ pub mod BridgeExamples
 pub mod CircuitNames
 pub mod Clashing
 pub mod Confining
-pub mod Counting
 pub mod Demands
 pub mod Fitting
 pub mod FittingExamples
@@ -14,11 +13,14 @@ pub mod GateExamples
 pub mod Gates
 pub mod Keeping
 pub mod LocalNumbers
+pub mod Lookup
 pub mod Members
 pub mod Names
 pub mod Needs
 pub mod Numbering
+pub mod Operands
 pub mod OutputShares
+pub mod PairNumbers
 pub mod Probes
 pub mod Products
 pub mod Reaching

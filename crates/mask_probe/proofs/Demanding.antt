@@ -53,7 +53,7 @@ FitsAt-same N (And u v) Q O O' same fits = let fewer = size-mono N O' O (λ i lt
 FitsAt-same N (Ref u) Q O O' same fits = let fewer = size-mono N O' O (λ i lt d. sym (same i lt) ∙ d) in omega arith
 
 -- what fits from a value on fits from each later one
-FitsFrom-drop : (N : ℕ) (P : List Place) (gs : List Gate) (n k : ℕ) → FitsFrom N P gs n → FitsFrom N P (drop k gs) (n + k)
+pub FitsFrom-drop : (N : ℕ) (P : List Place) (gs : List Gate) (n k : ℕ) → FitsFrom N P gs n → FitsFrom N P (drop k gs) (n + k)
 FitsFrom-drop N P [] n k fits = rw (drop-nil {A = Gate} k) tt
 FitsFrom-drop N P (g ∷ gs) n zero fits = rw (add-zero n) fits
 FitsFrom-drop N P (g ∷ gs) n (suc k) fits =

@@ -1,4 +1,10 @@
 pub mod Demanding
+pub mod GateMasks
+pub mod Gates
 pub mod Locating
+pub mod Masked
 pub mod OwnProbes
+pub mod Packing
 pub mod ShareSets
+pub mod Shifted
+pub mod Walking

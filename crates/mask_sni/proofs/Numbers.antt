@@ -5,10 +5,9 @@ use Rattle.std.proofs.lemmas.Option.{get_or_from_slice_get}
 use Rattle.std.proofs.lemmas.Nat.{div-add-mod'}
 use Rattle.mask_circuit.specs.Wires.{Wire, Share, Product, Fresh, Left, Right, other, row_wire, product_names, refresh_names}
 use Rattle.mask_laws.specs.Names.{IsPair, pairs_before, pair_number, pair_count}
-use Rattle.mask_laws.proofs.Counting.{pairs_before-all}
 use Rattle.mask_laws.proofs.LocalNumbers.{product_in_order, refresh_in_order}
+use Rattle.mask_laws.proofs.PairNumbers.{pairs_before-count}
 
--- a row more
 after_row : (n i m : ℕ) → m ≡ suc i → pairs_before n m ≡ pairs_before n i + (n - suc i)
 after_row n i m e = rw e refl
 
@@ -20,7 +19,7 @@ row_left n i p rest lt low e le = go (n - suc i) refl
     go (suc d) is = omega arith
     go zero is =
         let last : n ≡ suc i = omega arith in
-        let all = pairs_before-all n in
+        let all = pairs_before-count n in
         let more = after_row n i n last in
         omega arith
 

@@ -4,8 +4,7 @@ use Rattle.mask_circuit.specs.Ring.{words}
 use Rattle.mask_laws.specs.Names.{pair_number}
 use Rattle.mask_shares.specs.Sharing.{listed}
 use Rattle.mask_gadget.specs.Gadgets.{coins_of, pair_row}
-use Rattle.mask_laws.proofs.Counting.{small, pairs_before-more}
-use Rattle.mask_gadget.proofs.Numbers.{pair_number-lt, length-pairs, pairs_before-passed}
+use Rattle.mask_laws.proofs.PairNumbers.{small, pair_number-lt, length-pairs, pairs_before-all, pairs_before-more}
 use Rattle.mask_gadget.proofs.Pairs.{coin_at, pair_more, row_more}
 use Rattle.mask_gadget.proofs.product.push_pairs.Goals as goal
 
@@ -70,7 +69,7 @@ rows-preserved g c =
     }
 
 pub returns-clause-spent : goal.returns-clause-spent
-returns-clause-spent g c = let all = pairs_before-passed g.row.N c.rows.i (omega arith) in omega arith
+returns-clause-spent g c = let all = pairs_before-all g.row.N c.rows.i (omega arith) in omega arith
 
 pub returns-clause-count : goal.returns-clause-count
-returns-clause-count g c = let all = pairs_before-passed g.row.N c.rows.i (omega arith) in omega arith
+returns-clause-count g c = let all = pairs_before-all g.row.N c.rows.i (omega arith) in omega arith

@@ -9,8 +9,7 @@ use Rattle.mask_shares.specs.Sharing.{listed}
 use Rattle.mask_shares.proofs.Lists.{is_each}
 use Rattle.mask_gadget.specs.Gadgets.{coins_of}
 use Rattle.mask_gadget.proofs.Made.{map-each}
-use Rattle.mask_laws.proofs.Counting.{small, pairs_before-more}
-use Rattle.mask_gadget.proofs.Numbers.{pair_number-lt, length-pairs, pairs_before-passed}
+use Rattle.mask_laws.proofs.PairNumbers.{small, pair_number-lt, length-pairs, pairs_before-all, pairs_before-more}
 use Rattle.mask_gadget.proofs.Pairs.{coin_at, row_more, column_more}
 use Rattle.mask_gadget.proofs.Refreshes.{update_names, row_begins, row_ends, pair_done, pair_wires, all_done, all_updates}
 use Rattle.mask_gadget.proofs.Lanes.{out_of_words, wires_of_words, length-lane}
@@ -106,4 +105,4 @@ returns-clause-bit g c =
     (unmasked-ref g.row.N (lane l c.args.x) (lane l (coins_of g.row.N c.args.coins.now)) (length-lane l g.row.N c.args.x c.parts_of-parts.ensures.count))
 
 pub returns-clause-spent : goal.returns-clause-spent
-returns-clause-spent g c = let all = pairs_before-passed g.row.N c.rows.i (omega arith) in omega arith
+returns-clause-spent g c = let all = pairs_before-all g.row.N c.rows.i (omega arith) in omega arith

@@ -2,7 +2,7 @@ use Rattle.std.proofs.Common.{arith, ap, ◌∙◌}
 use Rattle.mask_circuit.specs.declared.gates.Gate.TheVariants.{And}
 use Rattle.mask_circuit.specs.Wires.{Pair, product_names}
 use Rattle.mask_circuit.specs.Shift.{product_mask}
-use Rattle.mask_laws.proofs.Counting.{small}
+use Rattle.mask_laws.proofs.PairNumbers.{small}
 use Rattle.mask_laws.proofs.Symmetry.{mask_is_symmetric}
 use Rattle.mask_sni.specs.Asked.{operand_shares, operand_sides, in_places, number_of, wires_at}
 use Rattle.mask_sni.proofs.Keeping.{product_mask_keeps}

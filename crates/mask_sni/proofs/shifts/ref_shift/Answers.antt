@@ -2,7 +2,7 @@ use Rattle.std.proofs.Common.{arith, ap, ◌∙◌}
 use Rattle.mask_circuit.specs.declared.gates.Gate.TheVariants.{Ref}
 use Rattle.mask_circuit.specs.Wires.{Pair, refresh_names}
 use Rattle.mask_circuit.specs.Shift.{refresh_mask}
-use Rattle.mask_laws.proofs.Counting.{small}
+use Rattle.mask_laws.proofs.PairNumbers.{small}
 use Rattle.mask_laws.proofs.Symmetry.{mask_is_symmetric}
 use Rattle.mask_sni.specs.Asked.{bit_shares, in_places, number_of, wires_at}
 use Rattle.mask_sni.proofs.Keeping.{refresh_mask_keeps}

@@ -1,0 +1,11 @@
+use Rattle.mask_laws.proofs.PairNumbers.{pair_number-closed}
+use Rattle.mask_probe.proofs.Masked.{pair_number-within}
+use Rattle.mask_probe.proofs.gadgets.pair_number.Goals as goal
+
+pub returns-clause-value : goal.returns-clause-value
+returns-clause-value g c = pair_number-closed g.row.N c.args.i c.args.j c.requires.order c.requires.bound
+
+pub returns-clause-bound : goal.returns-clause-bound
+returns-clause-bound g c =
+    rw (pair_number-closed g.row.N c.args.i c.args.j c.requires.order c.requires.bound)
+    (pair_number-within g.row.N c.args.i c.args.j c.requires.order c.requires.bound)
