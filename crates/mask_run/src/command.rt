@@ -32,7 +32,8 @@ use std::sync::ledger::Ledger;
 /// Words that are no job are refused before anything is read. `eval` reads a circuit text from `input`, evaluates it on
 /// shares with coins from `tape`, and writes the output bits to `out`; `watch` is told of the evaluation. `check` says
 /// whether the circuit is accepted and whether it is strong, `upgrade` writes it in version 2 of the text, and `probe` says
-/// which input shares suffice for some wires. `keys` is left as it was. `steps` counts the values that the checker visits and the gates that are evaluated.
+/// which input shares suffice for some wires. `keys` is left as it was. `steps` counts the values that the checker visits
+/// and the gates that are evaluated.
 pub fn mask_main<K: Source, S: Source, E: Entropy, O: Sink, W: Watch, L: Ledger>(
     alloc: Global,
     words: &Words,
