@@ -1,6 +1,7 @@
 //! `eval` on circuits in version 1 and 2 of the text at each order, and each of its refusals.
 
 use crate::runs::{EXAMPLE, Outcome, SEED, run};
+use mask_bits::Bits;
 use mask_io::{ClosedEntropy, MemEntropy, MemSource};
 use mask_run::{Status, status_number, status_text};
 use mask_text::Reason;
@@ -70,11 +71,28 @@ fn evaluates_the_example_at_each_order(rt: HostRuntime) -> Result<(), Fail> {
     ] {
         let outcome = eval_at(rt.alloc(), order, "01", EXAMPLE, bytes)?;
         assert_eq!(rt; outcome.status, Status::Done, "at order {order}");
-        assert_eq!(rt; outcome.written.as_slice(), b"01\n".as_slice(), "at order {order}");
+        assert_eq!(rt;
+            outcome.written.as_slice(),
+            b"01\n".as_slice(),
+            "at order {order}"
+        );
         let unfed = eval_at(rt.alloc(), order, "01", EXAMPLE, bytes - 1)?;
         assert_eq!(rt; unfed.status, Status::TapeFault, "at order {order}");
     }
     Ok(())
+}
+
+// Whether these are the bits, in this order.
+fn are_bits(bits: &Bits, want: &[bool]) -> bool {
+    if bits.len() != want.len() {
+        return false;
+    }
+    for k in 0..want.len() {
+        if bits.get(k) != want[k] {
+            return false;
+        }
+    }
+    true
 }
 
 // On the tape 1010 0101, lowest bit first: the coins of the inputs are 1 and 0, those of refresh and product 1 and 0.
@@ -85,18 +103,9 @@ fn tells_the_call(rt: HostRuntime) -> Result<(), Fail> {
     if outcome.watch.len() == 1 {
         let call = outcome.watch.get(0);
         assert_eq!(rt; call.order, 1);
-        for (bits, want) in [
-            (&call.inputs, [false, true, false, false].as_slice()),
-            (&call.tape, [true, false].as_slice()),
-            (&call.outputs, [false, true].as_slice()),
-        ] {
-            assert_eq!(rt; bits.len(), want.len());
-            for (k, bit) in want.iter().enumerate() {
-                if k < bits.len() {
-                    assert_eq!(rt; bits.get(k), *bit, "bit {k}");
-                }
-            }
-        }
+        assert!(rt; are_bits(&call.inputs, &[false, true, false, false]));
+        assert!(rt; are_bits(&call.tape, &[true, false]));
+        assert!(rt; are_bits(&call.outputs, &[false, true]));
     }
     Ok(())
 }
@@ -106,7 +115,13 @@ fn tells_the_call(rt: HostRuntime) -> Result<(), Fail> {
 fn refuses_a_circuit_that_is_not_accepted(rt: HostRuntime) -> Result<(), Fail> {
     for tape in [0, 1] {
         let outcome = eval(rt.alloc(), "01", SQUARE, tape)?;
-        assert_eq!(rt; outcome.status, Status::Refused { product: 1, source: 0 });
+        assert_eq!(rt;
+            outcome.status,
+            Status::Refused {
+                product: 1,
+                source: 0
+            }
+        );
         assert!(rt; outcome.written.is_empty());
         assert_eq!(rt; outcome.watch.len(), 0);
     }

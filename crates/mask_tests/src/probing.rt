@@ -64,6 +64,12 @@ fn refuses_bad_probes(rt: HostRuntime) -> Result<(), Fail> {
 fn refuses_a_circuit_that_is_not_accepted(rt: HostRuntime) -> Result<(), Fail> {
     let square = "masked-circuit 1\ninputs 1\nand 0 0\nout 1\nend\n";
     let outcome = probe(rt.alloc(), &["1", "999"], square)?;
-    assert_eq!(rt; outcome.status, Status::Refused { product: 1, source: 0 });
+    assert_eq!(rt;
+        outcome.status,
+        Status::Refused {
+            product: 1,
+            source: 0
+        }
+    );
     Ok(())
 }
