@@ -9,6 +9,7 @@ use Rattle.mask_probe.specs.declared.places.Placed.{Placed}
 abbrev pub place_of : Netlist → ℕ → Placed → Place
 place_of c N p = (p.value, slice_index_or (names_of c N p.value) p.part (Share 0))
 
+-- the same of each
 abbrev pub places_of : Netlist → ℕ → List Placed → List Place
 places_of c N placed = map (place_of c N) placed
 
