@@ -1,6 +1,6 @@
 -- How many bits an evaluation draws at most.
-use Rattle.std.proofs.Common.{◌≡◌, ℕ, zero, suc, ◌+◌, ◌*◌, ◌/◌, ◌^◌, ◌≤◌, cond, List, [], ◌∷◌, length, arith, lit≤}
-use Rattle.std.specs.List.{sum_by, count_by}
+use Rattle.std.proofs.Common.{ℕ, zero, suc, ◌+◌, ◌*◌, ◌/◌, ◌^◌, ◌≤◌, cond, List, [], ◌∷◌, length, arith, lit≤}
+use Rattle.std.specs.List.{count_by}
 use Rattle.std.proofs.lemmas.List.Sums.{sum_by-cons}
 use Rattle.std.proofs.Math.Nat.{mul-le-mul_right}
 use Rattle.mask_circuit.specs.declared.gates.Gate.{Gate}

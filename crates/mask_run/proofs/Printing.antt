@@ -1,15 +1,14 @@
 -- From what reading, evaluating and writing come to, to what `eval` promises.
-use Rattle.std.proofs.Common.{◌⊎◌, ◌≡◌, ℕ, ◌≤◌, Bool, List, [], ◌∷◌, refl, sym, ap, subst, inl, inr, ◌∙◌}
+use Rattle.std.proofs.Common.{◌⊎◌, ◌≡◌, ℕ, ◌≤◌, Bool, List, [], ◌∷◌, refl, ap, subst, inl, inr}
 use Rattle.std.specs.declared.option.Option.{Option}
 use Rattle.mask_circuit.specs.Netlist.{Netlist}
 use Rattle.mask_circuit.specs.Value.{plain}
 use Rattle.mask_circuit.specs.Acceptance.{IsAccepted}
-use Rattle.mask_laws.proofs.Clashing.{clash_refutes}
 use Rattle.mask_words.specs.WordTests.{Word}
 use Rattle.mask_run.specs.declared.status.Status.{Status}
 use Rattle.mask_run.specs.declared.status.Status.TheVariants.{Done, Refused, BadWords, ReadFault, TapeFault, WriteFault, NoMemory}
 use Rattle.mask_run.specs.Texts.{Stands, RefusesText, RefusesCircuit, OneOf}
-use Rattle.mask_run.specs.Hexadecimal.{hex_bytes, FitInputs, IsReport, input_bits}
+use Rattle.mask_run.specs.Hexadecimal.{hex_bytes, FitInputs, IsReport}
 use Rattle.mask_run.specs.Outside.{Outside, IsIdle, Writes, bytes_for}
 use Rattle.mask_run.specs.Calls.{eval_bits, Evaluates}
 use Rattle.mask_run.specs.Evaluating.{IsFit, IsMisfit, Prepares, RefusesEval, EvaluatesOn, Prints, PrintsBits, EvalEnds, EvalAnswers}

@@ -1,11 +1,11 @@
 -- From what reading, checking and asking for the needs come to, to what `probe` promises.
-use Rattle.std.proofs.Common.{◌⊎◌, ◌≡◌, ℕ, suc, ◌+◌, ◌<◌, ◌≤◌, List, [], ◌∷◌, length, take, slice_index, refl, sym, ap, subst, inl, inr, ◌∙◌, arith}
+use Rattle.std.proofs.Common.{◌≡◌, ℕ, suc, ◌+◌, ◌<◌, ◌≤◌, List, [], ◌∷◌, length, take, slice_index, refl, sym, ap, subst, inl, inr, ◌∙◌, arith}
 use Rattle.std.proofs.lemmas.Bool.{cases_order}
 use Rattle.std.proofs.lemmas.List.{length-take-le, get_or-take}
 use Rattle.std.specs.declared.option.Option.{Option}
 use Rattle.mask_circuit.specs.Netlist.{Netlist}
 use Rattle.mask_circuit.specs.Expansion.{wire_count}
-use Rattle.mask_circuit.specs.Acceptance.{IsAccepted, IsClash}
+use Rattle.mask_circuit.specs.Acceptance.{IsAccepted}
 use Rattle.mask_laws.specs.Circuits.{ArePlaces}
 use Rattle.mask_probe.specs.Asking.{AreProbes}
 use Rattle.mask_run.specs.declared.status.Status.{Status}

@@ -1,5 +1,5 @@
 -- From what reading and writing come to, to what `upgrade` promises.
-use Rattle.std.proofs.Common.{◌≡◌, ℕ, List, [], ◌∷◌, refl, inl, inr}
+use Rattle.std.proofs.Common.{ℕ, List, [], ◌∷◌, refl, inl, inr}
 use Rattle.std.specs.declared.option.Option.{Option}
 use Rattle.mask_circuit.specs.Labels.{LabelledNetlist}
 use Rattle.mask_circuit.specs.Text.{canonical2}

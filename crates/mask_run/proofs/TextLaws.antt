@@ -1,10 +1,10 @@
 -- What a text stands for, and what the reader's answers say of a text that is told.
-use Rattle.std.proofs.Common.{◌≡◌, ◌⊎◌, ℕ, ◌<◌, ◌≤◌, List, [], ◌∷◌, length, None, Some, refl, sym, ◌∙◌, ap, subst, inl, inr, unwrap_or, arith}
+use Rattle.std.proofs.Common.{◌≡◌, ◌⊎◌, ℕ, ◌<◌, ◌≤◌, List, [], length, None, Some, refl, sym, ◌∙◌, ap, subst, inl, inr, unwrap_or, arith}
 use Rattle.std.proofs.lemmas.List.{append-nil, length-append}
 use Rattle.std.specs.declared.option.Option.{Option}
 use Rattle.mask_circuit.specs.Netlist.{Netlist}
 use Rattle.mask_circuit.specs.Labels.{LabelledNetlist}
-use Rattle.mask_text.specs.Text.{IsText, IsTextOf}
+use Rattle.mask_text.specs.Text.{IsText}
 use Rattle.mask_text.specs.Faults.{Fault, fault, fault_at}
 use Rattle.mask_text.specs.Answers.{TakesAll, TakesTooMany, Explains}
 use Rattle.mask_text.specs.declared.errors.TextError.{TextError}
@@ -14,7 +14,7 @@ use Rattle.mask_text.specs.declared.read.TheConstants.{MAX_TEXT}
 use Rattle.mask_text.proofs.Exactly.{exactly}
 use Rattle.mask_run.specs.declared.status.Status.{Status}
 use Rattle.mask_run.specs.declared.status.Status.TheVariants.{BadText, TooLong, ReadFault, NoMemory}
-use Rattle.mask_run.specs.Texts.{Stands, HasFault, RefusesText, RefusesWhereDue, OneOf, status_of}
+use Rattle.mask_run.specs.Texts.{Stands, HasFault, RefusesText, RefusesWhereDue, status_of}
 use Rattle.mask_run.specs.Outside.{ComesFromReading}
 
 -- WHAT A TEXT STANDS FOR

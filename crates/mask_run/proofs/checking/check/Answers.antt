@@ -1,4 +1,4 @@
-use Rattle.std.proofs.Common.{subst, ℕ, ◌≤◌, ◌+◌}
+use Rattle.std.proofs.Common.{subst, ◌≤◌, ◌+◌}
 use Rattle.mask_circuit.specs.Netlist.{Netlist}
 use Rattle.mask_check.specs.Costs.{most_steps}
 use Rattle.mask_run.proofs.TextLaws.{text_is_one}

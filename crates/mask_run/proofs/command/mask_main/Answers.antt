@@ -10,7 +10,6 @@ use Rattle.mask_run.specs.Calls.{eval_bits}
 use Rattle.mask_run.proofs.Printing.{EvalEnds-at, fit-without_faults}
 use Rattle.mask_run.specs.Probing.{wires_of, ProbeAnswers}
 use Rattle.mask_run.proofs.Probed.{ProbeEnds-at}
-use Rattle.mask_run.proofs.Telling.{TellsSecureCalls-none}
 use Rattle.mask_run.proofs.command.mask_main.Goals as goal
 
 pub returns-in-Err-clause-refused : goal.returns-in-Err-clause-refused

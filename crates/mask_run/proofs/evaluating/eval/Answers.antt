@@ -1,11 +1,11 @@
-use Rattle.std.proofs.Common.{◌≡◌, ℕ, ◌≤◌, ◌+◌, sym, ap, subst, ◌∙◌, arith, length, List}
+use Rattle.std.proofs.Common.{◌≡◌, ℕ, ◌≤◌, ◌+◌, ap, ◌∙◌, arith, length, List}
 use Rattle.mask_circuit.specs.Netlist.{Netlist}
 use Rattle.mask_check.specs.Costs.{most_steps}
 use Rattle.mask_run.specs.Calls.{eval_bits}
 use Rattle.mask_run.specs.Outside.{Outside}
 use Rattle.mask_run.specs.Texts.{Stands}
 use Rattle.mask_run.proofs.TextLaws.{text_is_one}
-use Rattle.mask_run.proofs.Printing.{EvalEnds-evaluated, EvalEnds-undrawn, EvalEnds-refused, EvalAnswers-evaluated, EvalAnswers-undrawn, EvalAnswers-unheld, EvalAnswers-refused}
+use Rattle.mask_run.proofs.Printing.{EvalEnds-evaluated, EvalEnds-undrawn, EvalAnswers-evaluated, EvalAnswers-undrawn, EvalAnswers-refused}
 use Rattle.mask_run.proofs.evaluating.eval.Goals as goal
 
 pub returns-in-Err-clause-answers : goal.returns-in-Err-clause-answers

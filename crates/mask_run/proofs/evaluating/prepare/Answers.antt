@@ -1,10 +1,8 @@
-use Rattle.std.proofs.Common.{refl, ◌∙◌, subst, ℕ, ◌≤◌, ◌+◌, ap, sym}
+use Rattle.std.proofs.Common.{refl, subst, ℕ, ◌≤◌, ◌+◌, sym}
 use Rattle.mask_circuit.specs.Netlist.{Netlist}
-use Rattle.mask_circuit.specs.Acceptance.{IsAccepted, IsClash}
 use Rattle.mask_check.specs.Costs.{most_steps}
 use Rattle.mask_run.specs.Hexadecimal.{IsInputOf, FitInputs, hex_bytes}
 use Rattle.mask_run.specs.Texts.{Stands}
-use Rattle.mask_run.specs.Evaluating.{Prepares}
 use Rattle.mask_run.proofs.TextLaws.{text_is_one}
 use Rattle.mask_run.proofs.Printing.{RefusesEval-text, RefusesEval-circuit}
 use Rattle.mask_run.proofs.evaluating.prepare.Goals as goal

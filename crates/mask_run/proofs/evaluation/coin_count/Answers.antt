@@ -1,4 +1,4 @@
-use Rattle.std.proofs.Common.{◌≡◌, ℕ, ◌+◌, ◌*◌, ◌≤◌, suc, ap, ◌∙◌, arith, sym}
+use Rattle.std.proofs.Common.{◌≡◌, ℕ, ◌+◌, ◌*◌, suc, ap, ◌∙◌, arith}
 use Rattle.mask_circuit.specs.Netlist.{product_count, refresh_count}
 use Rattle.mask_circuit.specs.Expansion.{draws}
 use Rattle.mask_run.proofs.Counts.{few_draw, bits_bound, shares_bound}

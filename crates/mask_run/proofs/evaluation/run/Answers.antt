@@ -1,14 +1,13 @@
-use Rattle.std.proofs.Common.{◌≡◌, ℕ, suc, ◌+◌, ◌-◌, ◌*◌, ◌≤◌, List, length, map, take, drop, ap, ap₂, sym, ◌∙◌, arith, lit<}
+use Rattle.std.proofs.Common.{◌≡◌, ℕ, suc, ◌-◌, ◌*◌, List, length, map, drop, ap, ap₂, ◌∙◌, arith, lit<}
 use Rattle.std.specs.List.{concat}
 use Rattle.mask_circuit.specs.Ring.{words}
 use Rattle.mask_circuit.specs.Value.{plain}
 use Rattle.mask_circuit.specs.Expansion.{draws}
 use Rattle.mask_shares.specs.Sharing.{all_shared}
 use Rattle.mask_tape.specs.Drawn.{ahead}
-use Rattle.mask_eval.specs.Watching.{Told, reports, told_more}
+use Rattle.mask_eval.specs.Watching.{reports, told_more}
 use Rattle.mask_eval.specs.Frames.{input_values}
 use Rattle.mask_run.specs.Lanes.{words_of, first_bit}
-use Rattle.mask_run.specs.Calls.{eval_bits}
 use Rattle.mask_run.proofs.LaneZero.{shared_first_bits, reported_call}
 use Rattle.mask_run.proofs.evaluation.run.Goals as goal
 

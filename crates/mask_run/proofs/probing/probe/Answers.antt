@@ -1,12 +1,10 @@
-use Rattle.std.proofs.Common.{◌≡◌, ℕ, ◌≤◌, ◌+◌, List, subst, sym, ap, ◌∙◌}
+use Rattle.std.proofs.Common.{◌≡◌, ℕ, ◌≤◌, ◌+◌, List, subst, sym}
 use Rattle.mask_circuit.specs.Netlist.{Netlist}
-use Rattle.mask_circuit.specs.Acceptance.{IsAccepted}
 use Rattle.mask_check.specs.Costs.{most_steps}
-use Rattle.mask_words.specs.WordTests.{Word}
 use Rattle.mask_run.specs.Texts.{Stands}
 use Rattle.mask_run.specs.Probing.{wires_of}
 use Rattle.mask_run.proofs.TextLaws.{text_is_one}
-use Rattle.mask_run.proofs.Probed.{ProbeEnds-written, ProbeAnswers-written, ProbeEnds-unprobed, ProbeAnswers-unprobed, ProbeEnds-unadmitted, ProbeAnswers-unadmitted, ProbeEnds-refused, ProbeAnswers-refused}
+use Rattle.mask_run.proofs.Probed.{ProbeEnds-written, ProbeAnswers-written, ProbeEnds-unprobed, ProbeAnswers-unprobed, ProbeEnds-unadmitted, ProbeAnswers-unadmitted, ProbeAnswers-refused}
 use Rattle.mask_run.proofs.probing.probe.Goals as goal
 
 -- the admitted circuit is the one that was read

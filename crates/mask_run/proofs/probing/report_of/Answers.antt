@@ -1,4 +1,4 @@
-use Rattle.std.proofs.Common.{◌≡◌, ℕ, suc, ◌+◌, length, ap, subst, sym, ◌∙◌, arith}
+use Rattle.std.proofs.Common.{◌≡◌, ℕ, suc, ◌+◌, length, ap, subst, ◌∙◌, arith}
 use Rattle.mask_circuit.specs.Wires.{joined}
 use Rattle.mask_circuit.specs.Need.{need}
 use Rattle.mask_probe.specs.Asking.{has_share}
