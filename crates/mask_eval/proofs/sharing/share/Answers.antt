@@ -1,4 +1,4 @@
-use Rattle.std.proofs.Common.{◌≡◌, ℕ, ◌+◌, ◌-◌, ◌<◌, List, [], ◌∷◌, ◌++◌, length, take, get_or, fold, bit_xor, ap, sym, ◌∙◌, arith}
+use Rattle.std.proofs.Common.{◌≡◌, ℕ, ◌+◌, ◌-◌, ◌<◌, List, [], ◌∷◌, ◌++◌, length, get_or, fold, bit_xor, ap, sym, ◌∙◌, arith}
 use Rattle.std.proofs.lemmas.List.{take_more_set, length-set}
 use Rattle.std.proofs.lemmas.List.Sums.{fold-append}
 use Rattle.mask_tape.specs.Drawn.{ahead}
@@ -13,8 +13,8 @@ loop-i-preserved g c =
     let coin : get_or c.args.coins.now.words (c.args.coins.now.used + (c.loop-i.i - 1)) 0 ≡ c.next-coin.result = rw at (cc) in
     let more = ahead_more (c.loop-i.i - 1) c.args.coins.now room in
     let grown : ahead (c.loop-i.i + 1 - 1) c.args.coins.now ≡ ahead (c.loop-i.i - 1) c.args.coins.now ++ c.next-coin.result ∷ [] =
-        ap (λ (n : ℕ). ahead n c.args.coins.now) now ∙ more
-        ∙ ap (λ (x : ℕ). ahead (c.loop-i.i - 1) c.args.coins.now ++ x ∷ []) coin in
+    ap (λ (n : ℕ). ahead n c.args.coins.now) now ∙ more
+    ∙ ap (λ (x : ℕ). ahead (c.loop-i.i - 1) c.args.coins.now ++ x ∷ []) coin in
     record {
       spent = omega arith;
       same = cc;
