@@ -1,6 +1,6 @@
 -- The reading of bytes as they come one by one.
 use Rattle.std.proofs.Common.{◌≡◌, ℕ, zero, suc, ◌+◌, ◌-◌, ◌*◌, ◌%◌, ◌^◌, ◌<◌, Bool, false, List, [], ◌∷◌, ◌++◌, length, take, drop, get_or, replicate, reverse, fold, zero-add, min, length-drop, lit<, take-append-drop, refl, sym, ap, ◌∙◌, arith, append_assoc, append-nil, length-append}
-use Rattle.mask_bits.specs.Reading.{bit, lowest, low, high, number, big_endian}
+use Rattle.mask_bits.specs.Reading.{bit, lowest, low, high, number, big_endian, IsPadded}
 use Rattle.mask_bits.proofs.Numbers.{length-lowest, get_or-lowest, number-append, number-lowest}
 use Rattle.std.proofs.lemmas.List.{take_more, get_or-append-add, length-take-le, reverse-append, length-reverse}
 use Rattle.std.proofs.lemmas.Nat.{pow-add}
@@ -79,3 +79,9 @@ packed_more bits rest front back bytes byte n packed some n_is front_is back_is 
       split = packed.split ∙ ap (λ (l : List Bool). packed.done ++ l) joined ∙ sym (append_assoc packed.done front back);
       reads = low-push bytes byte ∙ rw (read, byte_is) (sym (append_assoc packed.done front (replicate (8 - length front) false)));
     }
+
+-- bytes with no rest
+pub packed_all : (bits rest : List Bool) (bytes : List ℕ) → Packed bits rest bytes → length rest ≡ 0 → IsPadded bits (low bytes)
+packed_all bits [] bytes packed none =
+    (packed.zeros, packed.few, packed.reads ∙ ap (λ (l : List Bool). l ++ replicate packed.zeros false) (sym (packed.split ∙ append-nil packed.done)))
+packed_all bits (b ∷ rest) bytes packed some = absurd (omega arith)

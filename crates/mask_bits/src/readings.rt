@@ -1,6 +1,6 @@
 //! Bytes as bits, and bits as bytes.
 
-ghost use Rattle.std.specs.Prelude.{◌≡◌, ℕ, ◌+◌, ◌-◌, ◌*◌, ◌<◌, ◌≤◌, false, ◌++◌, length, replicate, slice_index, slice_index_or, IfOk, OnOk};
+ghost use Rattle.std.specs.Prelude.{◌≡◌, ℕ, ◌+◌, ◌-◌, ◌*◌, ◌/◌, ◌<◌, ◌≤◌, false, ◌++◌, length, replicate, slice_index, slice_index_or, IfOk, OnOk};
 ghost use Rattle.mask_bits.specs.Reading.{bit, lowest, low, high, number, big_endian, IsPadded};
 
 use crate::Bits;
@@ -46,14 +46,23 @@ fn push_byte(bits: &mut Bits, byte: u8) -> Result<(), AllocError>
 pub fn bytes_of_low(alloc: Global, bits: &Bits) -> Result<Vec<u8>, AllocError>
     ensures { IfOk result (λ bytes. IsPadded bits.now (low bytes.items)) }
 {
-    let mut bytes = Vec::new(alloc);
+    let mut bytes = vec![in alloc; 0; bits.len().div_ceil(8)]?;
+    pack_low(bits, &mut bytes);
+    Ok(bytes)
+}
+
+/// Fills as many bytes as the bits need, so that their low-first reading begins with the bits and ends with fewer than
+/// eight zeros more. It takes no memory.
+pub fn pack_low(bits: &Bits, bytes: &mut [u8])
+    requires { length bytes.old ≡ (length bits.now + 7) / 8 }
+    ensures { IsPadded bits.now (low bytes.new) }
+{
     let mut rest = bits.as_slice();
-    while !rest.is_empty() {
+    for k in 0..bytes.len() {
         let (front, back) = rest.split_at(rest.len().min(8));
-        bytes.push(byte_of(front))?;
+        bytes[k] = byte_of(front);
         rest = back;
     }
-    Ok(bytes)
 }
 
 /// The bytes whose high-first reading begins with the bits and ends with fewer than eight zeros more.
