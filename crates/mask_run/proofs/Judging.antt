@@ -8,7 +8,7 @@ use Rattle.mask_run.specs.declared.status.Status.{Status}
 use Rattle.mask_run.specs.declared.status.Status.TheVariants.{Done, Refused, ReadFault, WriteFault, NoMemory}
 use Rattle.mask_run.specs.Texts.{Stands, RefusesText, RefusesCircuit, OneOf}
 use Rattle.mask_run.specs.Outside.{Writes}
-use Rattle.mask_run.specs.Checking.{CheckEnds, CheckAnswers, IsJudged, TellsStrong}
+use Rattle.mask_run.specs.Checking.{CheckEnds, CheckAnswers, IsJudged, PrintsVerdict, TellsStrong}
 use Rattle.mask_run.proofs.TextLaws.{text_is_one, circuit_unrefused, refused_due, refused_circuit}
 
 -- a circuit with a gap isn't strong
@@ -26,44 +26,18 @@ pub no_clash : (text : List ℕ) (c d : Netlist) (p s : ℕ) → Stands text c �
 no_clash text c d p s stands other accepted found =
     clash_refutes d p s found (subst (λ (e : Netlist). IsAccepted e) (text_is_one text c d stands other) accepted)
 
-module _ (text : List ℕ) (c : Netlist) (stands : Stands text c) where
+module _ (text : List ℕ) (c : Netlist) (stands : Stands text c) (before now : Option (List ℕ)) where
   -- the line was written, or a part of it
-  module _ (line : List ℕ) (judged : IsJudged c line) (before now : Option (List ℕ)) where
-    pub CheckEnds-written : (status : Status) → Writes line before now status → CheckEnds text before now status
-    CheckEnds-written Done h = record { circuit = c; line = line; stands = stands; judged = judged; written = h }
-    CheckEnds-written WriteFault h = record { circuit = c; line = line; stands = stands; judged = judged; written = h }
-    CheckEnds-written status h = absurd h
-
-    written_by : (status : Status) → Writes line before now status → OneOf status (Done ∷ ReadFault ∷ WriteFault ∷ NoMemory ∷ [])
-    written_by Done h = inl refl
-    written_by WriteFault h = inr (inr (inl refl))
-    written_by status h = absurd h
-
-    pub CheckAnswers-written : (status : Status) → Writes line before now status → CheckAnswers text status
-    CheckAnswers-written status h = record {
-      refuses = circuit_unrefused text c status stands;
-      clash = λ d p s other found. absurd (no_clash text c d p s stands other judged.accepted found);
-      accepted = λ d other is. written_by status h;
-    }
+  pub CheckEnds-written : (line : List ℕ) → IsJudged c line → (status : Status) → Writes line before now status → CheckEnds text before now status
+  CheckEnds-written line judged Done h = record { circuit = c; line = line; stands = stands; judged = judged; written = h }
+  CheckEnds-written line judged WriteFault h = record { circuit = c; line = line; stands = stands; judged = judged; written = h }
+  CheckEnds-written line judged status h = absurd h
 
   -- the circuit gets no line
-  pub CheckEnds-unjudged : (before now : Option (List ℕ)) (status : Status) → RefusesCircuit c status → CheckEnds text before now status
-  CheckEnds-unjudged before now (Refused p s) h = (c, stands, h)
-  CheckEnds-unjudged before now NoMemory h = tt
-  CheckEnds-unjudged before now status h = absurd h
-
-  pub CheckAnswers-unjudged : (status : Status) → RefusesCircuit c status → CheckAnswers text status
-  CheckAnswers-unjudged (Refused p s) h = record {
-    refuses = circuit_unrefused text c (Refused p s) stands;
-    clash = λ d q t other found. inl (same_refusal text c d p s q t stands other h found);
-    accepted = λ d other is. absurd (no_clash text d c p s other stands is h);
-  }
-  CheckAnswers-unjudged NoMemory h = record {
-    refuses = circuit_unrefused text c NoMemory stands;
-    clash = λ d q t other found. inr (inr (inl refl));
-    accepted = λ d other is. inr (inr (inr (inl refl)));
-  }
-  CheckAnswers-unjudged status h = absurd h
+  pub CheckEnds-unjudged : (status : Status) → RefusesCircuit c status → CheckEnds text before now status
+  CheckEnds-unjudged (Refused p s) h = (c, stands, h)
+  CheckEnds-unjudged NoMemory h = tt
+  CheckEnds-unjudged status h = absurd h
 
 -- the text is refused
 pub CheckEnds-refused : (text : List ℕ) (before now : Option (List ℕ)) (status : Status) → RefusesText text status → CheckEnds text before now status
@@ -72,9 +46,30 @@ CheckEnds-refused text before now WriteFault h = absurd h
 CheckEnds-refused text before now (Refused p s) h = absurd h
 CheckEnds-refused text before now status h = h
 
-pub CheckAnswers-refused : (text : List ℕ) (status : Status) → RefusesText text status → CheckAnswers text status
-CheckAnswers-refused text status h = record {
+-- WHEN EACH ANSWER COMES
+
+-- a line was printed
+printed : (text : List ℕ) (before now : Option (List ℕ)) (status : Status) → PrintsVerdict text before now status →
+    OneOf status (Done ∷ ReadFault ∷ WriteFault ∷ NoMemory ∷ []) → CheckAnswers text status
+printed text before now status h one = record {
+  refuses = circuit_unrefused text h.circuit status h.stands;
+  clash = λ d p s other found. absurd (no_clash text h.circuit d p s h.stands other h.judged.accepted found);
+  accepted = λ d other is. one;
+}
+
+refused : (text : List ℕ) (status : Status) → RefusesText text status → CheckAnswers text status
+refused text status h = record {
   refuses = refused_due text status h;
   clash = λ d p s stands found. elim (refused_circuit text d status h stands) [ inl read ↦ inr (inl read) | inr memory ↦ inr (inr (inl memory)) ];
   accepted = λ d stands is. elim (refused_circuit text d status h stands) [ inl read ↦ inr (inl read) | inr memory ↦ inr (inr (inr (inl memory))) ];
 }
+
+pub CheckEnds-answers : (text : List ℕ) (before now : Option (List ℕ)) (status : Status) → CheckEnds text before now status → CheckAnswers text status
+CheckEnds-answers text before now Done h = printed text before now Done h (inl refl)
+CheckEnds-answers text before now WriteFault h = printed text before now WriteFault h (inr (inr (inl refl)))
+CheckEnds-answers text before now (Refused p s) h = record {
+  refuses = circuit_unrefused text h.0 (Refused p s) h.1;
+  clash = λ d q t other found. inl (same_refusal text h.0 d p s q t h.1 other h.2 found);
+  accepted = λ d other is. absurd (no_clash text d h.0 p s other h.1 is h.2);
+}
+CheckEnds-answers text before now status h = refused text status h

@@ -8,3 +8,4 @@ pub mod Counts
 pub mod Inputs
 pub mod Reports
 pub mod Probed
+pub mod Promises

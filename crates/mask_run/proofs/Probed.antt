@@ -42,14 +42,10 @@ no_bad_place : (c : Netlist) (N : ℕ) (W : List ℕ) (p : ℕ) → AreProbes c 
 no_bad_place c N W p are (inl many) = let some = many.0 in let few = are.few in omega arith
 no_bad_place c N W p are (inr missing) = let good = are.wires missing.0 0 missing.2 in let fail = missing.3 in omega (arith, good, fail)
 
-module _ (text : List ℕ) (c : Netlist) (stands : Stands text c) (W : List ℕ) (d : ℕ) where
-  -- the circuit for which the text stands is this one
-  along : (P : Netlist → Type 0) (e : Netlist) → Stands text e → P e → P c
-  along P e other h = subst P (text_is_one text e c other stands) h
-
+module _ (text : List ℕ) (c : Netlist) (stands : Stands text c) (W : List ℕ) (d : ℕ) (before now : Option (List ℕ)) where
   module _ (accepted : IsAccepted c) where
     -- the report was written, or a part of it
-    module _ (report : List ℕ) (needs : IsNeedReport c (suc d) W report) (before now : Option (List ℕ)) where
+    module _ (report : List ℕ) (needs : IsNeedReport c (suc d) W report) where
       prints : (status : Status) → Writes report before now status → PrintsNeed text W d before now status
       prints status h = record { circuit = c; report = report; stands = stands; accepted = accepted; needs = needs; written = h }
 
@@ -58,61 +54,17 @@ module _ (text : List ℕ) (c : Netlist) (stands : Stands text c) (W : List ℕ)
       ProbeEnds-written WriteFault h = prints WriteFault h
       ProbeEnds-written status h = absurd h
 
-      written_by : (status : Status) → Writes report before now status → OneOf status (Done ∷ ReadFault ∷ WriteFault ∷ NoMemory ∷ [])
-      written_by Done h = inl refl
-      written_by WriteFault h = inr (inr (inl refl))
-      written_by status h = absurd h
-
-      pub ProbeAnswers-written : (status : Status) → Writes report before now status → ProbeAnswers text W d status
-      ProbeAnswers-written status h = record {
-        refuses = circuit_unrefused text c status stands;
-        clash = λ e p s other found. absurd (no_clash text c e p s stands other accepted found);
-        bad_probe = λ e place other is bad. absurd (no_bad_place c (suc d) W place needs.probes (along (λ (n : Netlist). IsBadProbe n (suc d) W place) e other bad));
-        probed = λ e other is are. written_by status h;
-      }
-
     -- the wires are refused
-    pub ProbeEnds-unprobed : (before now : Option (List ℕ)) (status : Status) → RefusesProbes c (suc d) W status → ProbeEnds text W d before now status
-    ProbeEnds-unprobed before now (BadProbe place) h = (c, stands, accepted, h)
-    ProbeEnds-unprobed before now NoMemory h = tt
-    ProbeEnds-unprobed before now status h = absurd h
-
-    pub ProbeAnswers-unprobed : (status : Status) → RefusesProbes c (suc d) W status → ProbeAnswers text W d status
-    ProbeAnswers-unprobed (BadProbe place) h = record {
-      refuses = circuit_unrefused text c (BadProbe place) stands;
-      clash = λ e p s other found. absurd (no_clash text c e p s stands other accepted found);
-      bad_probe = λ e q other is bad.
-          inl (ap BadProbe (one_place c (suc d) W place q h (along (λ (n : Netlist). IsBadProbe n (suc d) W q) e other bad)));
-      probed = λ e other is are. absurd (no_bad_place c (suc d) W place (along (λ (n : Netlist). AreProbes n (suc d) W) e other are) h);
-    }
-    ProbeAnswers-unprobed NoMemory h = record {
-      refuses = circuit_unrefused text c NoMemory stands;
-      clash = λ e p s other found. inr (inr (inl refl));
-      bad_probe = λ e q other is bad. inr (inr (inl refl));
-      probed = λ e other is are. inr (inr (inr (inl refl)));
-    }
-    ProbeAnswers-unprobed status h = absurd h
+    pub ProbeEnds-unprobed : (status : Status) → RefusesProbes c (suc d) W status → ProbeEnds text W d before now status
+    ProbeEnds-unprobed (BadProbe place) h = (c, stands, accepted, h)
+    ProbeEnds-unprobed NoMemory h = tt
+    ProbeEnds-unprobed status h = absurd h
 
   -- the circuit isn't admitted
-  pub ProbeEnds-unadmitted : (before now : Option (List ℕ)) (status : Status) → RefusesCircuit c status → ProbeEnds text W d before now status
-  ProbeEnds-unadmitted before now (Refused p s) h = (c, stands, h)
-  ProbeEnds-unadmitted before now NoMemory h = tt
-  ProbeEnds-unadmitted before now status h = absurd h
-
-  pub ProbeAnswers-unadmitted : (status : Status) → RefusesCircuit c status → ProbeAnswers text W d status
-  ProbeAnswers-unadmitted (Refused p s) h = record {
-    refuses = circuit_unrefused text c (Refused p s) stands;
-    clash = λ e q t other found. inl (same_refusal text c e p s q t stands other h found);
-    bad_probe = λ e q other is bad. absurd (no_clash text e c p s other stands is h);
-    probed = λ e other is are. absurd (no_clash text e c p s other stands is h);
-  }
-  ProbeAnswers-unadmitted NoMemory h = record {
-    refuses = circuit_unrefused text c NoMemory stands;
-    clash = λ e p s other found. inr (inr (inl refl));
-    bad_probe = λ e q other is bad. inr (inr (inl refl));
-    probed = λ e other is are. inr (inr (inr (inl refl)));
-  }
-  ProbeAnswers-unadmitted status h = absurd h
+  pub ProbeEnds-unadmitted : (status : Status) → RefusesCircuit c status → ProbeEnds text W d before now status
+  ProbeEnds-unadmitted (Refused p s) h = (c, stands, h)
+  ProbeEnds-unadmitted NoMemory h = tt
+  ProbeEnds-unadmitted status h = absurd h
 
 -- the text is refused
 pub ProbeEnds-refused : (text W : List ℕ) (d : ℕ) (before now : Option (List ℕ)) (status : Status) → RefusesText text status → ProbeEnds text W d before now status
@@ -122,18 +74,49 @@ ProbeEnds-refused text W d before now (Refused p s) h = absurd h
 ProbeEnds-refused text W d before now (BadProbe place) h = absurd h
 ProbeEnds-refused text W d before now status h = h
 
-pub ProbeAnswers-refused : (text W : List ℕ) (d : ℕ) (status : Status) → RefusesText text status → ProbeAnswers text W d status
-ProbeAnswers-refused text W d status h = record {
-  refuses = refused_due text status h;
-  clash = λ c p s stands found. early c stands;
-  bad_probe = λ c place stands is bad. early c stands;
-  probed = λ c stands is are. elim (refused_circuit text c status h stands) [ inl read ↦ inr (inl read) | inr memory ↦ inr (inr (inr (inl memory))) ];
-}
-  where
-    early : {s : Status} (c : Netlist) → Stands text c → OneOf status (s ∷ ReadFault ∷ NoMemory ∷ [])
-    early c stands = elim (refused_circuit text c status h stands) [ inl read ↦ inr (inl read) | inr memory ↦ inr (inr (inl memory)) ]
+-- WHEN EACH ANSWER COMES
 
--- orders that are the same
-pub ProbeEnds-at : (text W : List ℕ) (d d' : ℕ) (before now : Option (List ℕ)) (status : Status) → d ≡ d' → ProbeEnds text W d before now status →
-    ProbeEnds text W d' before now status
-ProbeEnds-at text W d d' before now status same h = subst (λ (n : ℕ). ProbeEnds text W n before now status) same h
+module _ (text W : List ℕ) (d : ℕ) where
+  -- the text stands for one circuit
+  along : (P : Netlist → Type 0) (c e : Netlist) → Stands text c → Stands text e → P e → P c
+  along P c e stands other h = subst P (text_is_one text e c other stands) h
+
+  -- a report was printed
+  printed : (before now : Option (List ℕ)) (status : Status) → PrintsNeed text W d before now status →
+      OneOf status (Done ∷ ReadFault ∷ WriteFault ∷ NoMemory ∷ []) → ProbeAnswers text W d status
+  printed before now status h one = record {
+    refuses = circuit_unrefused text h.circuit status h.stands;
+    clash = λ e p s other found. absurd (no_clash text h.circuit e p s h.stands other h.accepted found);
+    bad_probe = λ e place other is bad.
+        absurd (no_bad_place h.circuit (suc d) W place h.needs.probes (along (λ (n : Netlist). IsBadProbe n (suc d) W place) h.circuit e h.stands other bad));
+    probed = λ e other is are. one;
+  }
+
+  refused : (status : Status) → RefusesText text status → ProbeAnswers text W d status
+  refused status h = record {
+    refuses = refused_due text status h;
+    clash = λ c p s stands found. early c stands;
+    bad_probe = λ c place stands is bad. early c stands;
+    probed = λ c stands is are. elim (refused_circuit text c status h stands) [ inl read ↦ inr (inl read) | inr memory ↦ inr (inr (inr (inl memory))) ];
+  }
+    where
+      early : {s : Status} (c : Netlist) → Stands text c → OneOf status (s ∷ ReadFault ∷ NoMemory ∷ [])
+      early c stands = elim (refused_circuit text c status h stands) [ inl read ↦ inr (inl read) | inr memory ↦ inr (inr (inl memory)) ]
+
+  pub ProbeEnds-answers : (before now : Option (List ℕ)) (status : Status) → ProbeEnds text W d before now status → ProbeAnswers text W d status
+  ProbeEnds-answers before now Done h = printed before now Done h (inl refl)
+  ProbeEnds-answers before now WriteFault h = printed before now WriteFault h (inr (inr (inl refl)))
+  ProbeEnds-answers before now (Refused p s) h = record {
+    refuses = circuit_unrefused text h.0 (Refused p s) h.1;
+    clash = λ e q t other found. inl (same_refusal text h.0 e p s q t h.1 other h.2 found);
+    bad_probe = λ e q other is bad. absurd (no_clash text e h.0 p s other h.1 is h.2);
+    probed = λ e other is are. absurd (no_clash text e h.0 p s other h.1 is h.2);
+  }
+  ProbeEnds-answers before now (BadProbe place) h = record {
+    refuses = circuit_unrefused text h.0 (BadProbe place) h.1;
+    clash = λ e p s other found. absurd (no_clash text h.0 e p s h.1 other h.2 found);
+    bad_probe = λ e q other is bad.
+        inl (ap BadProbe (one_place h.0 (suc d) W place q h.3 (along (λ (n : Netlist). IsBadProbe n (suc d) W q) h.0 e h.1 other bad)));
+    probed = λ e other is are. absurd (no_bad_place h.0 (suc d) W place (along (λ (n : Netlist). AreProbes n (suc d) W) h.0 e h.1 other are) h.3);
+  }
+  ProbeEnds-answers before now status h = refused status h

@@ -15,7 +15,7 @@ use Rattle.mask_text.proofs.Exactly.{exactly}
 use Rattle.mask_run.specs.declared.status.Status.{Status}
 use Rattle.mask_run.specs.declared.status.Status.TheVariants.{BadText, TooLong, ReadFault, NoMemory}
 use Rattle.mask_run.specs.Texts.{Stands, HasFault, RefusesText, RefusesWhereDue, status_of}
-use Rattle.mask_run.specs.Outside.{ComesFromReading}
+use Rattle.mask_run.specs.Outside.{ComesBeforeDrawing}
 
 -- WHAT A TEXT STANDS FOR
 
@@ -110,7 +110,7 @@ Explains-told errors.ReadFault text now was is explains = tt
 Explains-told errors.NoMemory text now was is explains = tt
 
 -- and such a status comes from reading
-pub status_of-early : (error : TextError) → ComesFromReading (status_of error)
+pub status_of-early : (error : TextError) → ComesBeforeDrawing (status_of error)
 status_of-early (errors.Bad line reason) = tt
 status_of-early (errors.TooLong limit) = tt
 status_of-early errors.ReadFault = tt

@@ -1,6 +1,5 @@
 -- What `eval` promises, status by status; text is what the input had left, HEX the last word, and d the order.
-use Rattle.std.specs.Prelude.{◌≡◌, ℕ, ◌≤◌, ◌⊎◌, Bool, List, [], ◌∷◌}
-use Rattle.std.specs.declared.option.Option.{Option}
+use Rattle.std.specs.Prelude.{◌≡◌, ℕ, ◌≤◌, Bool, List, [], ◌∷◌}
 use Rattle.mask_circuit.specs.Netlist.{Netlist}
 use Rattle.mask_circuit.specs.Value.{plain}
 use Rattle.mask_circuit.specs.Acceptance.{IsAccepted, IsClash}
@@ -26,11 +25,6 @@ pub record Prepares (text : List ℕ) (hex : Word) (c : Netlist) (inputs : List 
   pub accepted : IsAccepted c
   pub is_input : IsInputOf hex c.inputs inputs
 
--- the line of these bits was written, or a part of it, or memory was wanting before
-abbrev pub PrintsBits : List Bool → Option (List ℕ) → Option (List ℕ) → Status → Type 0
-PrintsBits bs before now NoMemory = Unit {0}
-PrintsBits bs before now status = (line : List ℕ) × IsReport bs line × Writes line before now status
-
 -- why the text, HEX or the circuit is refused
 abbrev pub RefusesEval : List ℕ → Word → Status → Type 0
 RefusesEval text hex (BadWords place) = (place ≡ 5) × IsMisfit text hex
@@ -51,15 +45,14 @@ pub record Prints (text : List ℕ) (hex : Word) (d : ℕ) (o : Outside) (status
   pub written : Writes line o.out_before o.out_after status
   pub evaluates : EvaluatesOn circuit d hex o
 
--- What holds where `eval` ends so. That a fault comes only where the count of faults of its object rose, and what stays
--- untouched, is said of all commands at once.
+-- What holds where `eval` ends so: with Done and with a fault of writing the call was drawn and told, and else nothing
+-- was. That a fault comes only where the count of faults of its object rose, and what stays untouched, is said of all
+-- commands at once.
 abbrev pub EvalEnds : List ℕ → Word → ℕ → Outside → Status → Type 0
 EvalEnds text hex d o Done = Prints text hex d o Done
 EvalEnds text hex d o WriteFault = Prints text hex d o WriteFault
 EvalEnds text hex d o TapeFault =
     (c : Netlist) × IsFit text hex c × IsAccepted c × (o.wanted ≡ bytes_for (eval_bits c d)) × (1 ≤ o.wanted) × IsIdle o
-EvalEnds text hex d o NoMemory =
-    IsIdle o ⊎ ((c : Netlist) × IsFit text hex c × IsAccepted c × EvaluatesOn c d hex o)
 EvalEnds text hex d o status = RefusesEval text hex status × IsIdle o
 
 -- When each answer comes: where the text is an accepted circuit that HEX fits, only faults and want of memory stand

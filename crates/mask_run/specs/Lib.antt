@@ -5,6 +5,7 @@ pub mod Hexadecimal
 pub mod Lanes
 pub mod Outside
 pub mod Probing
+pub mod Promises
 pub mod Statuses
 pub mod Texts
 pub mod Upgrading

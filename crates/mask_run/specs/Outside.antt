@@ -32,26 +32,23 @@ Writes line before now Done = Appends before now line
 Writes line before now WriteFault = AppendsProperPrefix before now line
 Writes line before now status = ⊥
 
--- a status that reading and judging can have: neither the tape nor the output was asked for anything
-abbrev pub ComesFromReading : Status → Type 0
-ComesFromReading Done = ⊥
-ComesFromReading TapeFault = ⊥
-ComesFromReading WriteFault = ⊥
-ComesFromReading status = Unit {0}
-
--- a status with which nothing was written
+-- a status with which nothing was written, and the watch was told nothing
 abbrev pub ComesBeforeWriting : Status → Type 0
 ComesBeforeWriting Done = ⊥
 ComesBeforeWriting WriteFault = ⊥
 ComesBeforeWriting status = Unit {0}
 
--- a status that tells that the tape and the watch weren't asked for anything
+-- a status with which nothing was drawn: the tape wasn't asked for anything
 abbrev pub ComesBeforeDrawing : Status → Type 0
 ComesBeforeDrawing Done = ⊥
 ComesBeforeDrawing TapeFault = ⊥
 ComesBeforeDrawing WriteFault = ⊥
-ComesBeforeDrawing NoMemory = ⊥
 ComesBeforeDrawing status = Unit {0}
+
+-- a status with which the watch wasn't even made ready
+abbrev pub ComesBeforeWatching : Status → Type 0
+ComesBeforeWatching NoMemory = ⊥
+ComesBeforeWatching status = ComesBeforeDrawing status
 
 -- a status of a command that has no tape
 abbrev pub NeedsNoTape : Status → Type 0

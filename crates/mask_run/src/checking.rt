@@ -6,7 +6,7 @@ ghost use Rattle.mask_circuit.specs.Netlist.{Netlist};
 ghost use Rattle.mask_check.specs.Costs.{most_steps};
 ghost use Rattle.mask_run.specs.Outside.{ComesBeforeWriting, NeedsNoTape};
 ghost use Rattle.mask_run.specs.Texts.{Stands, RefusesCircuit};
-ghost use Rattle.mask_run.specs.Checking.{CheckEnds, CheckAnswers, IsJudged, TellsStrong, SaysStrong, check_line};
+ghost use Rattle.mask_run.specs.Checking.{CheckEnds, IsJudged, TellsStrong, SaysStrong, check_line};
 
 use crate::reading::{admitted, read};
 use crate::status::Status;
@@ -27,7 +27,6 @@ pub fn check<S: Source, O: Sink, L: Ledger>(
 ) -> Status
     ensures ends { (text : List ℕ) → S.left input.old ≡ Some text →
         CheckEnds text (O.written out.old) (O.written out.new) result }
-    ensures answers { (text : List ℕ) → S.left input.old ≡ Some text → CheckAnswers text result }
     ensures all_read { result ≡ Status.Done → (text : List ℕ) → S.left input.old ≡ Some text → S.left input.new ≡ Some [] }
     ensures read_fault { result ≡ Status.ReadFault → Rose (S.faults input.old) (S.faults input.new) }
     ensures write_fault { result ≡ Status.WriteFault → Rose (O.faults out.old) (O.faults out.new) }

@@ -3,17 +3,14 @@
 ghost use Rattle.std.specs.Prelude.{◌≡◌, ◌⊎◌, ℕ, ◌+◌, ◌≤◌, [], List, length, Some};
 ghost use Rattle.mask_io.specs.Outside.{Rose};
 ghost use Rattle.mask_circuit.specs.Netlist.{Netlist};
-ghost use Rattle.mask_circuit.specs.Acceptance.{IsAccepted};
 ghost use Rattle.mask_check.specs.Costs.{most_steps};
-ghost use Rattle.mask_words.specs.Jobs.{IsJob, IsRefused, word_at};
-ghost use Rattle.mask_words.specs.declared.table.Job.TheVariants.{Eval, Check, Upgrade, Probe};
-ghost use Rattle.mask_run.specs.Outside.{Outside, ComesBeforeDrawing, ComesBeforeWriting};
+ghost use Rattle.mask_words.specs.Jobs.{IsJob, IsRefused};
+ghost use Rattle.mask_words.specs.declared.table.Job.{Job};
+ghost use Rattle.mask_words.specs.declared.table.Job.TheVariants.{Eval};
+ghost use Rattle.mask_run.specs.Outside.{Outside, ComesBeforeDrawing, ComesBeforeWatching, ComesBeforeWriting};
 ghost use Rattle.mask_run.specs.Texts.{Stands};
 ghost use Rattle.mask_run.specs.Calls.{eval_bits, TellsSecureCalls};
-ghost use Rattle.mask_run.specs.Evaluating.{IsFit, EvalEnds, EvalAnswers};
-ghost use Rattle.mask_run.specs.Checking.{CheckEnds, CheckAnswers};
-ghost use Rattle.mask_run.specs.Upgrading.{UpgradeEnds, UpgradeAnswers};
-ghost use Rattle.mask_run.specs.Probing.{wires_of, ProbeEnds, ProbeAnswers};
+ghost use Rattle.mask_run.specs.Promises.{Ends, Answers, CanBeDone, EvaluatesNothing};
 
 use crate::checking::check;
 use crate::evaluating::eval;
@@ -48,9 +45,9 @@ pub fn mask_main<K: Source, S: Source, E: Entropy, O: Sink, W: Watch, L: Ledger>
     ensures refused { (place : ℕ) → IsRefused words.now place → (result ≡ Status.BadWords place)
         × (input.new ≡ input.old) × (tape.new ≡ tape.old) × (out.new ≡ out.old) × (watch.new ≡ watch.old) × (steps.new ≡ steps.old) }
 
-    // `eval`: what each status says, and when each answer comes.
-    ensures eval_ends { (order : ℕ) (text : List ℕ) → IsJob words.now (Eval order) → S.left input.old ≡ Some text →
-        EvalEnds text (word_at words.now 5) order
+    // What each status says of the job, and when each answer comes.
+    ensures ends { (job : Job) (text : List ℕ) → IsJob words.now job → S.left input.old ≡ Some text →
+        Ends job words.now text
         (record {
           tape_before = E.left tape.old;
           tape_after = E.left tape.new;
@@ -60,24 +57,13 @@ pub fn mask_main<K: Source, S: Source, E: Entropy, O: Sink, W: Watch, L: Ledger>
           told_before = W.told watch.old;
           told_after = W.told watch.new;
         }) result }
-    ensures eval_answers { (order : ℕ) (text : List ℕ) → IsJob words.now (Eval order) → S.left input.old ≡ Some text →
-        EvalAnswers text (word_at words.now 5) result }
+    ensures answers { (job : Job) (text : List ℕ) → IsJob words.now job → S.left input.old ≡ Some text →
+        Answers job words.now text result }
 
-    // `check`: likewise.
-    ensures check_ends { (text : List ℕ) → IsJob words.now Check → S.left input.old ≡ Some text →
-        CheckEnds text (O.written out.old) (O.written out.new) result }
-    ensures check_answers { (text : List ℕ) → IsJob words.now Check → S.left input.old ≡ Some text → CheckAnswers text result }
-
-    // `upgrade`: likewise.
-    ensures upgrade_ends { (text : List ℕ) → IsJob words.now Upgrade → S.left input.old ≡ Some text →
-        UpgradeEnds text (O.written out.old) (O.written out.new) result }
-    ensures upgrade_answers { (text : List ℕ) → IsJob words.now Upgrade → S.left input.old ≡ Some text → UpgradeAnswers text result }
-
-    // `probe`: likewise.
-    ensures probe_ends { (order : ℕ) (text : List ℕ) → IsJob words.now (Probe order) → S.left input.old ≡ Some text →
-        ProbeEnds text (wires_of words.now) order (O.written out.old) (O.written out.new) result }
-    ensures probe_answers { (order : ℕ) (text : List ℕ) → IsJob words.now (Probe order) → S.left input.old ≡ Some text →
-        ProbeAnswers text (wires_of words.now) order result }
+    // A job that can be done is done, unless an object fails or memory is wanting.
+    ensures complete { (job : Job) (text : List ℕ) → IsJob words.now job → S.left input.old ≡ Some text → CanBeDone job words.now text →
+        (Rose (S.faults input.old) (S.faults input.new) → ⊥) → (Rose (E.faults tape.old) (E.faults tape.new) → ⊥) →
+        (Rose (O.faults out.old) (O.faults out.new) → ⊥) → (result ≡ Status.Done) ⊎ (result ≡ Status.NoMemory) }
 
     // On every command and status: each circuit that the watch was told is accepted, and non-interfering at the order at
     // which it was told; and strongly so where it is strong.
@@ -92,12 +78,6 @@ pub fn mask_main<K: Source, S: Source, E: Entropy, O: Sink, W: Watch, L: Ledger>
     ensures write_fault { result ≡ Status.WriteFault → Rose (O.faults out.old) (O.faults out.new) }
     ensures wants { result ≡ Status.TapeFault → 1 ≤ E.wanted tape.new }
 
-    // An accepted circuit that HEX fits is evaluated, unless an object fails or memory is wanting.
-    ensures complete { (order : ℕ) (text : List ℕ) (c : Netlist) → IsJob words.now (Eval order) → S.left input.old ≡ Some text →
-        IsFit text (word_at words.now 5) c → IsAccepted c → (Rose (S.faults input.old) (S.faults input.new) → ⊥) →
-        (Rose (E.faults tape.old) (E.faults tape.new) → ⊥) → (Rose (O.faults out.old) (O.faults out.new) → ⊥) →
-        (result ≡ Status.Done) ⊎ (result ≡ Status.NoMemory) }
-
     // A tape of which nothing is wanted isn't asked.
     ensures idle { (order : ℕ) (text : List ℕ) (c : Netlist) → IsJob words.now (Eval order) → S.left input.old ≡ Some text →
         Stands text c → eval_bits c order ≡ 0 → tape.new ≡ tape.old }
@@ -105,11 +85,10 @@ pub fn mask_main<K: Source, S: Source, E: Entropy, O: Sink, W: Watch, L: Ledger>
     // What stays as it was.
     ensures keys { keys.new ≡ keys.old }
     ensures undrawn { ComesBeforeDrawing result → tape.new ≡ tape.old }
-    ensures untold { ComesBeforeDrawing result → watch.new ≡ watch.old }
+    ensures unwatched { ComesBeforeWatching result → watch.new ≡ watch.old }
+    ensures untold { ComesBeforeWriting result → W.told watch.new ≡ W.told watch.old }
     ensures unwritten { ComesBeforeWriting result → out.new ≡ out.old }
-    ensures check_idle { IsJob words.now Check → (tape.new ≡ tape.old) × (watch.new ≡ watch.old) }
-    ensures upgrade_idle { IsJob words.now Upgrade → (tape.new ≡ tape.old) × (watch.new ≡ watch.old) }
-    ensures probe_idle { (order : ℕ) → IsJob words.now (Probe order) → (tape.new ≡ tape.old) × (watch.new ≡ watch.old) }
+    ensures apart { (job : Job) → IsJob words.now job → EvaluatesNothing job → (tape.new ≡ tape.old) × (watch.new ≡ watch.old) }
 
     // A circuit costs at most so many steps.
     ensures cost { (text : List ℕ) (c : Netlist) → S.left input.old ≡ Some text → Stands text c →

@@ -5,19 +5,19 @@ ghost use Rattle.mask_io.specs.Outside.{Rose};
 ghost use Rattle.mask_circuit.specs.Netlist.{Netlist};
 ghost use Rattle.mask_circuit.specs.Value.{plain};
 ghost use Rattle.mask_check.specs.Costs.{most_steps};
-ghost use Rattle.mask_tape.specs.declared.tape.TapeError.TheVariants.{Failed};
+ghost use Rattle.mask_tape.specs.declared.tape.TapeError.TheVariants.{Failed, NoMemory};
 ghost use Rattle.mask_words.specs.WordTests.{is_hex_text};
-ghost use Rattle.mask_run.specs.Outside.{Outside, ComesFromReading, ComesBeforeDrawing, ComesBeforeWriting, bytes_for};
+ghost use Rattle.mask_run.specs.Outside.{Outside, ComesBeforeDrawing, ComesBeforeWatching, ComesBeforeWriting, bytes_for};
 ghost use Rattle.mask_run.specs.Texts.{Stands};
 ghost use Rattle.mask_run.specs.Calls.{eval_bits, Evaluates, TellsSecureCalls};
-ghost use Rattle.mask_run.specs.Evaluating.{Prepares, RefusesEval, EvalEnds, EvalAnswers, PrintsBits};
+ghost use Rattle.mask_run.specs.Evaluating.{Prepares, RefusesEval, EvalEnds};
+ghost use Rattle.mask_run.specs.Hexadecimal.{IsReport};
 
 use crate::evaluation::{Prepared, evaluate};
-use crate::hexadecimal::{input_bits, report};
+use crate::hexadecimal::input_bits;
 use crate::reading::{admitted, read};
 use crate::status::Status;
 use crate::writing::send;
-use mask_bits::Bits;
 use mask_circuit::Steps;
 use mask_eval::Watch;
 use mask_io::{Entropy, Sink, Source};
@@ -50,7 +50,6 @@ pub fn eval<S: Source, E: Entropy, O: Sink, W: Watch, L: Ledger>(
           told_before = W.told watch.old;
           told_after = W.told watch.new;
         }) result }
-    ensures answers { (text : List ℕ) → S.left input.old ≡ Some text → EvalAnswers text hex.now result }
     ensures all_read { result ≡ Status.Done → (text : List ℕ) → S.left input.old ≡ Some text → S.left input.new ≡ Some [] }
     ensures secure { TellsSecureCalls (W.told watch.old) (W.told watch.new) }
     ensures read_fault { result ≡ Status.ReadFault → Rose (S.faults input.old) (S.faults input.new) }
@@ -59,7 +58,8 @@ pub fn eval<S: Source, E: Entropy, O: Sink, W: Watch, L: Ledger>(
     ensures wants { result ≡ Status.TapeFault → 1 ≤ E.wanted tape.new }
     ensures idle { (text : List ℕ) (c : Netlist) → S.left input.old ≡ Some text → Stands text c → eval_bits c order ≡ 0 → tape.new ≡ tape.old }
     ensures undrawn { ComesBeforeDrawing result → tape.new ≡ tape.old }
-    ensures untold { ComesBeforeDrawing result → watch.new ≡ watch.old }
+    ensures untold { ComesBeforeWriting result → W.told watch.new ≡ W.told watch.old }
+    ensures unwatched { ComesBeforeWatching result → watch.new ≡ watch.old }
     ensures unwritten { ComesBeforeWriting result → out.new ≡ out.old }
     ensures steps { (text : List ℕ) (c : Netlist) → S.left input.old ≡ Some text → Stands text c →
         steps.new ≤ steps.old + (most_steps c + length c.gates) }
@@ -69,7 +69,7 @@ pub fn eval<S: Source, E: Entropy, O: Sink, W: Watch, L: Ledger>(
         Err(status) => return status,
     };
     match evaluated(alloc, order, &prepared, tape, watch, steps) {
-        Ok(bits) => send_bits(alloc, &bits, out),
+        Ok(line) => send(&line, out),
         Err(TapeError::Failed) => Status::TapeFault,
         Err(TapeError::NoMemory) => Status::NoMemory,
     }
@@ -86,7 +86,7 @@ fn prepare<S: Source, L: Ledger>(
     ensures ok { IfOk result (λ p. (text : List ℕ) → S.left input.old ≡ Some text →
         Prepares text hex.now p.circuit p.inputs × (S.left input.new ≡ Some [])) }
     ensures err { IfErr result (λ status. (text : List ℕ) → S.left input.old ≡ Some text → RefusesEval text hex.now status) }
-    ensures early { IfErr result ComesFromReading }
+    ensures early { IfErr result ComesBeforeDrawing }
     ensures read_fault { IsErrOf result Status.ReadFault → Rose (S.faults input.old) (S.faults input.new) }
     ensures steps { (text : List ℕ) (c : Netlist) → S.left input.old ≡ Some text → Stands text c → steps.new ≤ steps.old + most_steps c }
 {
@@ -105,7 +105,7 @@ fn prepare<S: Source, L: Ledger>(
     }
 }
 
-// Evaluates at an order that is known when the program runs alone.
+// The report on an evaluation at an order that is known when the program runs alone.
 fn evaluated<E: Entropy, W: Watch, L: Ledger>(
     alloc: Global,
     order: u32,
@@ -113,10 +113,10 @@ fn evaluated<E: Entropy, W: Watch, L: Ledger>(
     tape: &mut E,
     watch: &mut W,
     steps: &mut Steps<L>,
-) -> Result<Bits, TapeError>
+) -> Result<Vec<u8>, TapeError>
     requires some { 1 ≤ order }
     requires few { order ≤ 7 }
-    ensures bits { IfOk result (λ bits. bits ≡ plain prepared.now.circuit prepared.now.inputs) }
+    ensures report { IfOk result (λ line. IsReport (plain prepared.now.circuit prepared.now.inputs) line.items) }
     ensures evaluates { OnOk result (Evaluates prepared.now.circuit order prepared.now.inputs
         (E.left tape.old) (E.left tape.new) (W.told watch.old) (W.told watch.new)) }
     ensures secure { TellsSecureCalls (W.told watch.old) (W.told watch.new) }
@@ -124,6 +124,7 @@ fn evaluated<E: Entropy, W: Watch, L: Ledger>(
     ensures told { OnErr result (W.told watch.new ≡ W.told watch.old) }
     ensures failed { IfErr result (λ e. e ≡ Failed → Rose (E.faults tape.old) (E.faults tape.new)
         × (E.wanted tape.new ≡ bytes_for (eval_bits prepared.now.circuit order)) × (1 ≤ E.wanted tape.new)) }
+    ensures no_memory { IfErr result (λ e. e ≡ NoMemory → tape.new ≡ tape.old) }
     ensures idle { eval_bits prepared.now.circuit order ≡ 0 → tape.new ≡ tape.old }
     ensures steps { steps.new ≤ steps.old + length prepared.now.circuit.gates }
 {
@@ -135,17 +136,5 @@ fn evaluated<E: Entropy, W: Watch, L: Ledger>(
         5 => evaluate::<6, E, W, L>(alloc, order, prepared, tape, watch, steps),
         6 => evaluate::<7, E, W, L>(alloc, order, prepared, tape, watch, steps),
         _ => evaluate::<8, E, W, L>(alloc, order, prepared, tape, watch, steps),
-    }
-}
-
-// Writes the bits in hexadecimal.
-fn send_bits<O: Sink>(alloc: Global, bits: &Bits, out: &mut O) -> Status
-    ensures prints { PrintsBits bits.now (O.written out.old) (O.written out.new) result }
-    ensures write_fault { result ≡ Status.WriteFault → Rose (O.faults out.old) (O.faults out.new) }
-    ensures unwritten { ComesBeforeWriting result → out.new ≡ out.old }
-{
-    match report(alloc, bits) {
-        Ok(line) => send(&line, out),
-        Err(_) => Status::NoMemory,
     }
 }

@@ -13,8 +13,10 @@ ghost use Rattle.mask_eval.specs.Frames.{Fits, input_values};
 ghost use Rattle.mask_eval.specs.Watching.{told_more};
 ghost use Rattle.mask_run.specs.Outside.{bytes_for};
 ghost use Rattle.mask_run.specs.Calls.{eval_bits, eval_call, Evaluates, TellsSecureCalls};
+ghost use Rattle.mask_run.specs.Hexadecimal.{IsReport};
 ghost use Rattle.mask_run.specs.Lanes.{words_of, first_bit};
 
+use crate::hexadecimal::Report;
 use mask_bits::Bits;
 use mask_check::Admitted;
 use mask_circuit::{Circuit, Steps};
@@ -33,10 +35,10 @@ pub struct Prepared {
     ghost just_enough: { length inputs ≡ circuit.inputs },
 }
 
-/// The output bits of the circuit, evaluated at this order on N shares of each value.
+/// The report on the output bits of the circuit, evaluated at this order on N shares of each value.
 ///
-/// The inputs are shared with the first bits of the tape. All memory is taken before the tape is asked. Only the shares
-/// of the outputs are unmasked.
+/// The inputs are shared with the first bits of the tape. All memory is taken before the tape is asked, that of the report
+/// too, so that coins are never drawn in vain. Only the shares of the outputs are unmasked.
 pub(crate) fn evaluate<const N: usize, E: Entropy, W: Watch, L: Ledger>(
     alloc: Global,
     order: u32,
@@ -44,11 +46,11 @@ pub(crate) fn evaluate<const N: usize, E: Entropy, W: Watch, L: Ledger>(
     tape: &mut E,
     watch: &mut W,
     steps: &mut Steps<L>,
-) -> Result<Bits, TapeError>
+) -> Result<Vec<u8>, TapeError>
     requires some { 2 ≤ N }
     requires few { N ≤ 8 }
     requires order { order + 1 ≡ N }
-    ensures bits { IfOk result (λ bits. bits ≡ plain prepared.now.circuit prepared.now.inputs) }
+    ensures report { IfOk result (λ line. IsReport (plain prepared.now.circuit prepared.now.inputs) line.items) }
     ensures evaluates { OnOk result (Evaluates prepared.now.circuit order prepared.now.inputs
         (E.left tape.old) (E.left tape.new) (W.told watch.old) (W.told watch.new)) }
     ensures secure { TellsSecureCalls (W.told watch.old) (W.told watch.new) }
@@ -58,12 +60,15 @@ pub(crate) fn evaluate<const N: usize, E: Entropy, W: Watch, L: Ledger>(
     ensures told { OnErr result (W.told watch.new ≡ W.told watch.old) }
     ensures failed { IfErr result (λ e. e ≡ Failed → Rose (E.faults tape.old) (E.faults tape.new)
         × (E.wanted tape.new ≡ bytes_for (eval_bits prepared.now.circuit order)) × (1 ≤ E.wanted tape.new)) }
+    ensures no_memory { IfErr result (λ e. e ≡ NoMemory → tape.new ≡ tape.old) }
     ensures idle { eval_bits prepared.now.circuit order ≡ 0 → tape.new ≡ tape.old }
     ensures steps { steps.new ≤ steps.old + length prepared.now.circuit.gates }
 {
     let circuit = prepared.circuit.circuit();
+    let output_count = circuit.outputs().len();
     let mut frame = Frame::<N>::new(alloc, &prepared.circuit)?;
-    let mut outputs = Bits::zeros(alloc, circuit.outputs().len())?;
+    let mut outputs = Bits::zeros(alloc, output_count)?;
+    let report = Report::new(alloc, output_count)?;
     watch.room(circuit, order, 1)?;
     let count = coin_count(circuit, order);
     let mut coins = match Tape::new().reserve(alloc, tape, 1, count) {
@@ -80,7 +85,7 @@ pub(crate) fn evaluate<const N: usize, E: Entropy, W: Watch, L: Ledger>(
         &mut outputs,
     );
     coins.finish();
-    Ok(outputs)
+    Ok(report.print(&outputs))
 }
 
 // How many bits are drawn: those that share the inputs, and those of products and refreshes.

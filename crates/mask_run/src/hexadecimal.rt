@@ -1,13 +1,13 @@
 //! Bits in hexadecimal, as a command line names them and as a report prints them.
 
-ghost use Rattle.std.specs.Prelude.{◌≡◌, ℕ, ◌+◌, ◌/◌, ◌<◌, ◌≤◌, List, take, length, IfOk, IsTrue, All, [], ◌∷◌, ◌++◌, ◌↔◌, false, MatchOption};
+ghost use Rattle.std.specs.Prelude.{◌≡◌, ℕ, ◌+◌, ◌*◌, ◌/◌, ◌<◌, ◌≤◌, take, drop, replicate, length, IfOk, IsTrue, ◌++◌, ◌↔◌, false, MatchOption};
 ghost use Rattle.std.specs.List.{AllWithin};
 ghost use Rattle.hex.specs.Hex.{encode_lower};
 ghost use Rattle.mask_words.specs.WordTests.{is_hex_text};
 ghost use Rattle.mask_bits.specs.Reading.{low};
 ghost use Rattle.mask_run.specs.Hexadecimal.{hex_bytes, FitInputs, IsInputOf, IsReport};
 
-use mask_bits::{Bits, bits_low_first, bytes_of_low};
+use mask_bits::{Bits, bits_low_first, pack_low};
 use std::alloc::{AllocError, Global};
 
 /// The bits that `word` names for a circuit with so many inputs, where they fit it.
@@ -64,20 +64,45 @@ fn first_bits(alloc: Global, bits: &Bits, count: usize) -> Result<Bits, AllocErr
     Ok(first)
 }
 
-/// The bits as lower-case hexadecimal, the first bit of a byte its lowest, and a line feed.
-pub fn report(alloc: Global, bits: &Bits) -> Result<Vec<u8>, AllocError>
-    ensures { IfOk result (λ text. IsReport bits.now text.items) }
-{
-    let bytes = bytes_of_low(alloc, bits)?;
-    hex_line(alloc, &bytes)
+/// Room for the report on bits that aren't known yet. It takes all memory of the report, so that none is wanted once coins
+/// are drawn.
+#[derive(Drop)]
+pub(crate) struct Report {
+    bytes: Vec<u8>,
+    line: Vec<u8>,
+    ghost blank: { line.items ≡ replicate (2 * length bytes.items + 1) 10 },
 }
 
-fn hex_line(alloc: Global, bytes: &[u8]) -> Result<Vec<u8>, AllocError>
-    ensures line { IfOk result (λ text. text.items ≡ encode_lower bytes.now ++ 10 ∷ []) }
-    ensures bytes { All (λ byte. byte < 256) bytes.now }
+impl Report {
+    /// Room for so many bits.
+    pub(crate) fn new(alloc: Global, bits: usize) -> Result<Report, AllocError>
+        ensures { IfOk result (λ r. length r.bytes.items ≡ (bits + 7) / 8) }
+    {
+        let bytes = vec![in alloc; 0; bits.div_ceil(8)]?;
+        let line = vec![in alloc; b'\n'; 2 * bytes.len() + 1]?;
+        Ok(Report { bytes, line })
+    }
+
+    /// The bits as lower-case hexadecimal, the first bit of a byte its lowest, and a line feed.
+    pub(crate) fn print(self, bits: &Bits) -> Vec<u8>
+        requires { length self.bytes.items ≡ (length bits.now + 7) / 8 }
+        ensures { IsReport bits.now result.items }
+    {
+        let Report {
+            mut bytes,
+            mut line,
+        } = self;
+        pack_low(bits, &mut bytes);
+        write_digits(&bytes, &mut line);
+        line
+    }
+}
+
+// Writes two digits for each byte to the front of the line.
+fn write_digits(bytes: &[u8], line: &mut [u8])
+    requires { 2 * length bytes.now + 1 ≡ length line.old }
+    ensures { line.new ≡ encode_lower bytes.now ++ drop (2 * length bytes.now) line.old }
 {
-    let digits = hex::encode(alloc, bytes)?;
-    let mut text = Vec::from_slice(alloc, digits.as_bytes())?;
-    text.push(b'\n')?;
-    Ok(text)
+    let end = line.len() - 1;
+    hex::encode_to_slice(bytes, &mut line[..end]).unwrap();
 }

@@ -10,7 +10,7 @@ ghost use Rattle.mask_probe.specs.Asking.{IsProbeRefusal, has_share};
 ghost use Rattle.mask_words.specs.Jobs.{ProbeWords};
 ghost use Rattle.mask_run.specs.Outside.{ComesBeforeWriting, NeedsNoTape};
 ghost use Rattle.mask_run.specs.Texts.{Stands};
-ghost use Rattle.mask_run.specs.Probing.{wires_of, numbers_text, share_text, need_line, IsNeedReport, RefusesProbes, ProbeEnds, ProbeAnswers};
+ghost use Rattle.mask_run.specs.Probing.{wires_of, numbers_text, share_text, need_line, IsNeedReport, RefusesProbes, ProbeEnds};
 
 use crate::reading::{admitted, read};
 use crate::status::Status;
@@ -40,7 +40,6 @@ pub fn probe<S: Source, O: Sink, L: Ledger>(
     requires words { ProbeWords words.now order }
     ensures ends { (text : List ℕ) → S.left input.old ≡ Some text →
         ProbeEnds text (wires_of words.now) order (O.written out.old) (O.written out.new) result }
-    ensures answers { (text : List ℕ) → S.left input.old ≡ Some text → ProbeAnswers text (wires_of words.now) order result }
     ensures all_read { result ≡ Status.Done → (text : List ℕ) → S.left input.old ≡ Some text → S.left input.new ≡ Some [] }
     ensures read_fault { result ≡ Status.ReadFault → Rose (S.faults input.old) (S.faults input.new) }
     ensures write_fault { result ≡ Status.WriteFault → Rose (O.faults out.old) (O.faults out.new) }

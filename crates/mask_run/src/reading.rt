@@ -5,7 +5,7 @@ ghost use Rattle.mask_io.specs.Outside.{Rose};
 ghost use Rattle.mask_circuit.specs.Acceptance.{IsAccepted};
 ghost use Rattle.mask_check.specs.Costs.{most_steps};
 ghost use Rattle.mask_check.specs.Security.{IsNIAtEachOrder};
-ghost use Rattle.mask_run.specs.Outside.{ComesFromReading};
+ghost use Rattle.mask_run.specs.Outside.{ComesBeforeDrawing};
 ghost use Rattle.mask_run.specs.Texts.{Stands, RefusesText, RefusesCircuit, status_of};
 
 use crate::status::Status;
@@ -20,7 +20,7 @@ use std::sync::ledger::Ledger;
 pub(crate) fn read<S: Source>(alloc: Global, input: &mut S) -> Result<Circuit, Status>
     ensures ok { IfOk result (λ c. (text : List ℕ) → S.left input.old ≡ Some text → Stands text c × (S.left input.new ≡ Some [])) }
     ensures err { IfErr result (λ status. (text : List ℕ) → S.left input.old ≡ Some text → RefusesText text status) }
-    ensures early { IfErr result ComesFromReading }
+    ensures early { IfErr result ComesBeforeDrawing }
     ensures read_fault { IsErrOf result Status.ReadFault → Rose (S.faults input.old) (S.faults input.new) }
 {
     match read_circuit(alloc, input) {

@@ -4,7 +4,7 @@ ghost use Rattle.std.specs.Prelude.{◌≡◌, ℕ, [], List, Some};
 ghost use Rattle.mask_io.specs.Outside.{Rose};
 ghost use Rattle.mask_circuit.specs.Text.{canonical2};
 ghost use Rattle.mask_run.specs.Outside.{ComesBeforeWriting, NeedsNoTape, Writes};
-ghost use Rattle.mask_run.specs.Upgrading.{UpgradeEnds, UpgradeAnswers};
+ghost use Rattle.mask_run.specs.Upgrading.{UpgradeEnds};
 
 use crate::reading::status_of;
 use crate::status::Status;
@@ -17,7 +17,6 @@ use std::alloc::Global;
 pub fn upgrade<S: Source, O: Sink>(alloc: Global, input: &mut S, out: &mut O) -> Status
     ensures ends { (text : List ℕ) → S.left input.old ≡ Some text →
         UpgradeEnds text (O.written out.old) (O.written out.new) result }
-    ensures answers { (text : List ℕ) → S.left input.old ≡ Some text → UpgradeAnswers text result }
     ensures all_read { result ≡ Status.Done → (text : List ℕ) → S.left input.old ≡ Some text → S.left input.new ≡ Some [] }
     ensures read_fault { result ≡ Status.ReadFault → Rose (S.faults input.old) (S.faults input.new) }
     ensures write_fault { result ≡ Status.WriteFault → Rose (O.faults out.old) (O.faults out.new) }

@@ -2,34 +2,21 @@ use Rattle.std.proofs.Common.{subst, ◌≤◌, ◌+◌}
 use Rattle.mask_circuit.specs.Netlist.{Netlist}
 use Rattle.mask_check.specs.Costs.{most_steps}
 use Rattle.mask_run.proofs.TextLaws.{text_is_one}
-use Rattle.mask_run.proofs.Judging.{CheckEnds-written, CheckAnswers-written, CheckEnds-unjudged, CheckAnswers-unjudged, CheckEnds-refused, CheckAnswers-refused}
+use Rattle.mask_run.proofs.Judging.{CheckEnds-written, CheckEnds-unjudged, CheckEnds-refused}
 use Rattle.mask_run.proofs.checking.check.Goals as goal
 
 pub returns-in-Err-clause-ends : goal.returns-in-Err-clause-ends
 returns-in-Err-clause-ends g c text told = CheckEnds-refused text _ _ _ (c.in-Err.ensures.err text told)
 
-pub returns-in-Err-clause-answers : goal.returns-in-Err-clause-answers
-returns-in-Err-clause-answers g c text told = CheckAnswers-refused text _ (c.in-Err.ensures.err text told)
-
 pub returns-in-Ok-judge-clause-ends : goal.returns-in-Ok-judge-clause-ends
 returns-in-Ok-judge-clause-ends g c text told =
-    CheckEnds-written text _ (c.in-Ok.ensures.ok text told).0 _ c.in-Ok-judge.ensures.ok _ _ _ (rw c.deref.ensures.value at c.send.ensures.writes)
-
-pub returns-in-Ok-judge-clause-answers : goal.returns-in-Ok-judge-clause-answers
-returns-in-Ok-judge-clause-answers g c text told =
-    let before = g.O.Sink.written c.args.out.now in
-    let now = g.O.Sink.written c.send.new.out in
-    CheckAnswers-written text _ (c.in-Ok.ensures.ok text told).0 _ c.in-Ok-judge.ensures.ok before now _
-    (rw c.deref.ensures.value at c.send.ensures.writes)
+    CheckEnds-written text _ (c.in-Ok.ensures.ok text told).0 _ _ _ c.in-Ok-judge.ensures.ok _ (rw c.deref.ensures.value at c.send.ensures.writes)
 
 pub returns-in-Ok-judge-clause-all_read : goal.returns-in-Ok-judge-clause-all_read
 returns-in-Ok-judge-clause-all_read g c done text told = (c.in-Ok.ensures.ok text told).1
 
 pub returns-in-Err-judge-clause-ends : goal.returns-in-Err-judge-clause-ends
 returns-in-Err-judge-clause-ends g c text told = CheckEnds-unjudged text _ (c.in-Ok.ensures.ok text told).0 _ _ _ c.in-Err-judge.ensures.err
-
-pub returns-in-Err-judge-clause-answers : goal.returns-in-Err-judge-clause-answers
-returns-in-Err-judge-clause-answers g c text told = CheckAnswers-unjudged text _ (c.in-Ok.ensures.ok text told).0 _ c.in-Err-judge.ensures.err
 
 pub returns-in-Ok-judge-clause-steps : goal.returns-in-Ok-judge-clause-steps
 returns-in-Ok-judge-clause-steps g c text d told stands =

@@ -5,21 +5,13 @@ use Rattle.mask_run.specs.Calls.{eval_bits}
 use Rattle.mask_run.specs.Outside.{Outside}
 use Rattle.mask_run.specs.Texts.{Stands}
 use Rattle.mask_run.proofs.TextLaws.{text_is_one}
-use Rattle.mask_run.proofs.Printing.{EvalEnds-evaluated, EvalEnds-undrawn, EvalAnswers-evaluated, EvalAnswers-undrawn, EvalAnswers-refused}
+use Rattle.mask_run.proofs.Printing.{EvalEnds-evaluated, EvalEnds-undrawn}
 use Rattle.mask_run.proofs.evaluating.eval.Goals as goal
-
-pub returns-in-Err-clause-answers : goal.returns-in-Err-clause-answers
-returns-in-Err-clause-answers g c text told = EvalAnswers-refused text c.args.hex.now _ (c.in-Err.ensures.err text told)
 
 pub returns-in-Ok-evaluated-clause-ends : goal.returns-in-Ok-evaluated-clause-ends
 returns-in-Ok-evaluated-clause-ends g c text told =
-    let prints = rw c.in-Ok-evaluated.ensures.bits at c.send_bits.ensures.prints in
-    EvalEnds-evaluated text c.args.hex.now _ _ (c.in-Ok.ensures.ok text told).0 c.args.order _ c.in-Ok-evaluated.ensures.evaluates _ prints
-
-pub returns-in-Ok-evaluated-clause-answers : goal.returns-in-Ok-evaluated-clause-answers
-returns-in-Ok-evaluated-clause-answers g c text told =
-    let prints = rw c.in-Ok-evaluated.ensures.bits at c.send_bits.ensures.prints in
-    EvalAnswers-evaluated text c.args.hex.now _ _ (c.in-Ok.ensures.ok text told).0 _ _ _ prints
+    EvalEnds-evaluated text c.args.hex.now _ _ (c.in-Ok.ensures.ok text told).0 c.args.order _ c.in-Ok-evaluated.ensures.evaluates _
+    c.in-Ok-evaluated.ensures.report _ (rw c.deref.ensures.value at c.send.ensures.writes)
 
 pub returns-in-Ok-evaluated-clause-all_read : goal.returns-in-Ok-evaluated-clause-all_read
 returns-in-Ok-evaluated-clause-all_read g c done text told = (c.in-Ok.ensures.ok text told).1
@@ -73,6 +65,3 @@ returns-in-Err-Failed-clause-ends g c text told =
     } in
     EvalEnds-undrawn text c.args.hex.now _ _ (c.in-Ok.ensures.ok text told).0 c.args.order outside failed.1 failed.2
     (c.in-Err-Failed.ensures.left, c.in-Err-Failed.ensures.told)
-
-pub returns-in-Err-Failed-clause-answers : goal.returns-in-Err-Failed-clause-answers
-returns-in-Err-Failed-clause-answers g c text told = EvalAnswers-undrawn text c.args.hex.now _ _ (c.in-Ok.ensures.ok text told).0

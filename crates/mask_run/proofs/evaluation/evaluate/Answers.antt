@@ -11,7 +11,7 @@ pub returns-clause-evaluates : goal.returns-clause-evaluates
 returns-clause-evaluates g c =
     let drawn = c.in-Ok.ensures.drawn in
     let count = c.coin_count-count.ensures.bits ∙ ap (λ (n : Netlist). eval_bits n c.args.order) c.circuit-circuit.ensures.same in
-    let call = drawn_call c.args.prepared.now.circuit c.args.order c.args.prepared.now.inputs c.new-2.result _ _ _ _ c.in-Ok.coins.words c.new-2.ensures
+    let call = drawn_call c.args.prepared.now.circuit c.args.order c.args.prepared.now.inputs c.new-3.result _ _ _ _ c.in-Ok.coins.words c.new-3.ensures
     count c.args.prepared.now.just_enough drawn in
     record {
       fresh = drawn.fresh;

@@ -4,7 +4,7 @@ use Rattle.mask_check.specs.Costs.{most_steps}
 use Rattle.mask_run.specs.Texts.{Stands}
 use Rattle.mask_run.specs.Probing.{wires_of}
 use Rattle.mask_run.proofs.TextLaws.{text_is_one}
-use Rattle.mask_run.proofs.Probed.{ProbeEnds-written, ProbeAnswers-written, ProbeEnds-unprobed, ProbeAnswers-unprobed, ProbeEnds-unadmitted, ProbeAnswers-unadmitted, ProbeAnswers-refused}
+use Rattle.mask_run.proofs.Probed.{ProbeEnds-written, ProbeEnds-unprobed, ProbeEnds-unadmitted}
 use Rattle.mask_run.proofs.probing.probe.Goals as goal
 
 -- the admitted circuit is the one that was read
@@ -15,16 +15,9 @@ stands_there text c a same h = subst (λ (n : Netlist). Stands text n) (sym same
 steps_there : (text : List ℕ) (c d : Netlist) (before now : ℕ) → Stands text c → Stands text d → now ≤ before + most_steps c → now ≤ before + most_steps d
 steps_there text c d before now h k steps = subst (λ (n : Netlist). now ≤ before + most_steps n) (text_is_one text c d h k) steps
 
-pub returns-in-Err-clause-answers : goal.returns-in-Err-clause-answers
-returns-in-Err-clause-answers g c text told = ProbeAnswers-refused text _ c.args.order _ (c.in-Err.ensures.err text told)
-
 pub returns-in-Err-admitted-clause-ends : goal.returns-in-Err-admitted-clause-ends
 returns-in-Err-admitted-clause-ends g c text told =
     ProbeEnds-unadmitted text _ (c.in-Ok.ensures.ok text told).0 (wires_of c.args.words.now) c.args.order _ _ _ c.in-Err-admitted.ensures.err
-
-pub returns-in-Err-admitted-clause-answers : goal.returns-in-Err-admitted-clause-answers
-returns-in-Err-admitted-clause-answers g c text told =
-    ProbeAnswers-unadmitted text _ (c.in-Ok.ensures.ok text told).0 (wires_of c.args.words.now) c.args.order _ c.in-Err-admitted.ensures.err
 
 pub returns-in-Err-admitted-clause-steps : goal.returns-in-Err-admitted-clause-steps
 returns-in-Err-admitted-clause-steps g c text d told stands = steps_there text _ d _ _ (c.in-Ok.ensures.ok text told).0 stands c.admitted.ensures.steps
@@ -32,14 +25,7 @@ returns-in-Err-admitted-clause-steps g c text d told stands = steps_there text _
 pub returns-in-Ok-report-clause-ends : goal.returns-in-Ok-report-clause-ends
 returns-in-Ok-report-clause-ends g c text told =
     ProbeEnds-written text _ (stands_there text _ _ c.in-Ok-admitted.ensures.same (c.in-Ok.ensures.ok text told).0) (wires_of c.args.words.now) c.args.order
-    c.in-Ok-admitted.ensures.accepted _ c.in-Ok-report.ensures.ok _ _ _ (rw c.deref.ensures.value at c.send.ensures.writes)
-
-pub returns-in-Ok-report-clause-answers : goal.returns-in-Ok-report-clause-answers
-returns-in-Ok-report-clause-answers g c text told =
-    let before = g.O.Sink.written c.args.out.now in
-    let now = g.O.Sink.written c.send.new.out in
-    ProbeAnswers-written text _ (stands_there text _ _ c.in-Ok-admitted.ensures.same (c.in-Ok.ensures.ok text told).0) (wires_of c.args.words.now) c.args.order
-    c.in-Ok-admitted.ensures.accepted _ c.in-Ok-report.ensures.ok before now _ (rw c.deref.ensures.value at c.send.ensures.writes)
+    _ _ c.in-Ok-admitted.ensures.accepted _ c.in-Ok-report.ensures.ok _ (rw c.deref.ensures.value at c.send.ensures.writes)
 
 pub returns-in-Ok-report-clause-all_read : goal.returns-in-Ok-report-clause-all_read
 returns-in-Ok-report-clause-all_read g c done text told = (c.in-Ok.ensures.ok text told).1
@@ -50,12 +36,7 @@ returns-in-Ok-report-clause-steps g c text d told stands = steps_there text _ d 
 pub returns-clause-ends : goal.returns-clause-ends
 returns-clause-ends g c text told =
     ProbeEnds-unprobed text _ (stands_there text _ _ c.in-Ok-admitted.ensures.same (c.in-Ok.ensures.ok text told).0) (wires_of c.args.words.now) c.args.order
-    c.in-Ok-admitted.ensures.accepted _ _ _ c.in-Err-report.ensures.err
-
-pub returns-clause-answers : goal.returns-clause-answers
-returns-clause-answers g c text told =
-    ProbeAnswers-unprobed text _ (stands_there text _ _ c.in-Ok-admitted.ensures.same (c.in-Ok.ensures.ok text told).0) (wires_of c.args.words.now) c.args.order
-    c.in-Ok-admitted.ensures.accepted _ c.in-Err-report.ensures.err
+    _ _ c.in-Ok-admitted.ensures.accepted _ c.in-Err-report.ensures.err
 
 pub returns-clause-steps : goal.returns-clause-steps
 returns-clause-steps g c text d told stands = steps_there text _ d _ _ (c.in-Ok.ensures.ok text told).0 stands c.admitted.ensures.steps
