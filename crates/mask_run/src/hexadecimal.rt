@@ -7,6 +7,7 @@ ghost use Rattle.mask_words.specs.WordTests.{is_hex_text};
 ghost use Rattle.mask_bits.specs.Reading.{low};
 ghost use Rattle.mask_run.specs.Hexadecimal.{hex_bytes, FitInputs, IsInputOf, IsReport};
 
+use hex::FromHexError;
 use mask_bits::{Bits, bits_low_first, pack_low};
 use std::alloc::{AllocError, Global};
 
@@ -29,6 +30,7 @@ pub fn input_bits(alloc: Global, word: &str, inputs: u32) -> Result<Option<Bits>
 
 // The bytes that the word names: none for `-`.
 fn hex_bytes(alloc: Global, word: &str) -> Result<Vec<u8>, AllocError>
+    requires { IsTrue (is_hex_text word.now) }
     ensures { IfOk result (λ bytes. bytes.items ≡ hex_bytes word.now) }
 {
     if word == "-" {
@@ -36,8 +38,11 @@ fn hex_bytes(alloc: Global, word: &str) -> Result<Vec<u8>, AllocError>
     }
     match hex::decode(alloc, word) {
         Ok(bytes) => Ok(bytes),
-        // The word is made of digits, so only memory can be wanting.
-        Err(_) => Err(AllocError),
+        Err(error) => {
+            // The word is an even number of digits, so only memory can be wanting.
+            prove!(matches!(&error, FromHexError::OutOfMemory));
+            Err(AllocError)
+        }
     }
 }
 
