@@ -1,11 +1,13 @@
 -- The bits of a mask one after another, and the least number that passes a test.
-use Rattle.std.proofs.Common.{◌≡◌, ℕ, zero, suc, ◌+◌, ◌*◌, ◌^◌, ◌<◌, ◌≤◌, Bool, true, false, cond, List, [], ◌∷◌, length, map, take, get_or, slice_get, Some, None, refl, sym, ap, ◌∙◌, arith, add-one}
+use Rattle.std.proofs.Common.{◌≡◌, inl, inr, ℕ, zero, suc, ◌+◌, ◌*◌, ◌^◌, ◌<◌, ◌≤◌, Bool, true, false, cond, List, [], ◌∷◌, length, map, take, get_or, slice_get, Some, None, refl, sym, ap, ◌∙◌, arith, add-one}
 use Rattle.std.specs.declared.option.Option.{Option}
+use Rattle.std.specs.Option.{MatchOption}
 use Rattle.std.proofs.Math.Nat.{pow-le-pow_right, pow-succ'}
 use Rattle.std.proofs.lemmas.List.{get_or-map, length-map, take_all}
 use Rattle.std.proofs.lemmas.Option.{get_or_from_slice_get, slice_get_within}
 use Rattle.mask_circuit.specs.Wires.{Pair, pairs}
 use Rattle.mask_circuit.specs.Shift.{least}
+use Rattle.mask_circuit.proofs.Places.{below_cases}
 use Rattle.mask_laws.specs.Names.{IsPair, pair_number, pair_count}
 use Rattle.mask_laws.proofs.LocalNumbers.{pairs_in_order}
 use Rattle.mask_sni.specs.Asked.{number_of}
@@ -55,15 +57,25 @@ mask_all f n p mask e so_far =
 pub small_more : (p mask r : ℕ) → mask < 2 ^ p → r ≤ 2 ^ p → mask + r < 2 ^ (p + 1)
 small_more p mask r low bit = rw (add-one p, power-suc p) (omega arith)
 
--- another candidate for the least one
-pub least_more : (test : ℕ → Bool) (n : ℕ) (result : Option ℕ) →
-    ((k : ℕ) → least test n ≡ Some k → result ≡ Some k) → (least test n ≡ None → result ≡ cond (test n) (Some n) None) →
-    result ≡ least test (n + 1)
-least_more test n result kept next = rw (add-one n) (go (least test n) refl)
-  where
-    go : (found : Option ℕ) → least test n ≡ found → result ≡ least test (suc n)
-    go (Some k) e = rw e (kept k e)
-    go None e = rw e (next e)
+-- no number passes
+least_none : (test : ℕ → Bool) (n : ℕ) → ((k : ℕ) → 0 ≤ k → k < n → test k ≡ false) → least test n ≡ None
+least_none test zero none = refl
+least_none test (suc n) none = rw (least_none test n (λ k low lt. none k low (omega arith)), none n (omega arith) (omega arith)) refl
+
+-- the first one that passes
+least_some : (test : ℕ → Bool) (n i : ℕ) → i < n → test i ≡ true → ((k : ℕ) → 0 ≤ k → k < i → test k ≡ false) → least test n ≡ Some i
+least_some test zero i lt here none = absurd (omega arith)
+least_some test (suc n) i lt here none = elim (below_cases i n lt) [
+  | inl low ↦ rw (least_some test n i low here none) refl
+  | inr e ↦ rw (least_none test n (λ k low lt. none k low (omega arith)), ← e, here) refl
+]
+
+-- a search upwards finds the least number
+pub least_found : (test : ℕ → Bool) (n : ℕ) (result : Option ℕ) →
+    MatchOption result ((k : ℕ) → 0 ≤ k → k < n → test k ≡ false) (λ i. (0 ≤ i) × (i < n) × (test i ≡ true) × ((k : ℕ) → 0 ≤ k → k < i → test k ≡ false)) →
+    result ≡ least test n
+least_found test n None none = sym (least_none test n none)
+least_found test n (Some i) found = sym (least_some test n i found.1 found.2 found.3)
 
 -- a power that a mask of 28 bits can have
 pub small_power : (k : ℕ) → k < 28 → 2 ^ k ≤ 134217728
