@@ -8,7 +8,8 @@ ghost use Rattle.mask_sni.specs.Kinds.{pair_wire, touched};
 use crate::Places;
 use crate::wires::{Kind, LocalWire, touches};
 
-/// Whether share i has a flip, with share k: share i is named, changes, and isn't touched, and k is its partner.
+/// Whether the fresh bit of shares i and k is flipped for share i: it is named, changes, and isn't touched, and k is its
+/// partner.
 pub(crate) fn is_flipped_with(
     kind: Kind,
     n: u8,
