@@ -13,8 +13,8 @@ use Rattle.mask_laws.proofs.PairNumbers.{length-pairs, pair_number-lt}
 use Rattle.mask_circuit.proofs.Places.{length-each}
 use Rattle.mask_laws.proofs.Tapes.{length-add_bits}
 use Rattle.mask_sni.specs.Asked.{bit_shares, number_of}
+use Rattle.mask_sni.proofs.Masks.{bit_shares-number_of}
 use Rattle.mask_probe.specs.Sides.{bits_from}
-use Rattle.mask_probe.proofs.Packing.{bit_shares-number_of}
 
 -- the number of a pair is below how many there are
 pub pair_number-within : (n i j : ℕ) → i < j → j < n → pair_number n i j < length (pairs n)

@@ -5,6 +5,7 @@ ghost use Rattle.mask_circuit.specs.declared.limits.TheConstants.{MAX_VALUES};
 ghost use Rattle.mask_probe.specs.Asking.{has_share};
 ghost use Rattle.mask_sni.specs.Asked.{bit_shares, in_places, members};
 
+use crate::sides::bit_of;
 use mask_sni::Places;
 use std::marker::Model;
 
@@ -50,16 +51,8 @@ impl Needs {
         requires share { share < 8 }
         ensures { result ≡ has_share self.now input share }
     {
-        has_share(self.sets[input as usize], share as u8)
+        bit_of(self.sets[input as usize], share as usize)
     }
-}
-
-/// Whether a share is in the set.
-pub(crate) fn has_share(set: u8, share: u8) -> bool
-    requires { share < 8 }
-    ensures { result ≡ bit_shares set share }
-{
-    set >> share & 1 == 1
 }
 
 /// The set with a share more.
@@ -77,7 +70,7 @@ pub(crate) fn places_in<const N: usize>(set: u8) -> Places
 {
     let mut places = Places::new();
     for share in 0..N as u8 {
-        if has_share(set, share) {
+        if bit_of(set, share as usize) {
             places.push(share);
         }
     }

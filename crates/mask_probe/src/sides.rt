@@ -7,12 +7,12 @@ ghost use Rattle.mask_probe.specs.Sides.{byte_shares, input_shares};
 use mask_bits::Bits;
 use std::alloc::{AllocError, Global};
 
-/// Share i.
-pub(crate) fn share_of(shares: u8, i: usize) -> bool
+/// Bit i of a byte: share i of a value, or whether share i is in a set.
+pub(crate) fn bit_of(byte: u8, i: usize) -> bool
     requires { i < 8 }
-    ensures { result ≡ bit_shares shares i }
+    ensures { result ≡ bit_shares byte i }
 {
-    (shares >> i) & 1 == 1
+    (byte >> i) & 1 == 1
 }
 
 /// The shares before share i, with share i.

@@ -1,11 +1,10 @@
 -- The mask of a call keeps what is watched: the law of the gate at the bits of the mask.
-use Rattle.std.proofs.Common.{◌≡◌, ℕ, zero, suc, ◌+◌, ◌*◌, ◌/◌, ◌%◌, ◌<◌, ◌≤◌, ◌==◌, ◌&&◌, inl, inr, Bool, true, false, cond, List, [], ◌∷◌, length, map, get_or, All, Contains, refl, sym, ◌∙◌, subst, arith}
+use Rattle.std.proofs.Common.{◌≡◌, ℕ, zero, suc, ◌<◌, ◌≤◌, ◌==◌, ◌&&◌, inl, inr, Bool, true, false, List, [], ◌∷◌, length, map, get_or, All, Contains, refl, sym, ◌∙◌, subst, arith}
 use Rattle.std.specs.Int.{bit_at}
 use Rattle.std.proofs.lemmas.List.{length-map}
 use Rattle.std.proofs.lemmas.List.Elements.{All-append, All-map, All-weaker, All-contains, All-contains_itself, Contains-get_or}
 use Rattle.std.proofs.lemmas.List.Folds.{list_any_at}
 use Rattle.std.proofs.lemmas.Bool.{and_parts, or_cases, eqb-true, eq-eqb}
-use Rattle.std.proofs.lemmas.Nat.Bits.{bit_at_lowest, bit_at-suc}
 use Rattle.mask_circuit.specs.declared.gates.Gate.{Gate}
 use Rattle.mask_circuit.specs.declared.gates.Gate.TheVariants.{And, Ref}
 use Rattle.mask_circuit.specs.Ring.{bits}
@@ -18,6 +17,7 @@ use Rattle.mask_laws.proofs.Gates.{gate_keeps}
 use Rattle.mask_laws.proofs.Sets.{size-owned}
 use Rattle.mask_sni.specs.Asked.{AreAsked, bit_shares, in_places, members, number_of, operand_shares, wires_at}
 use Rattle.mask_sni.specs.Keeping.{mask_bits, watched, AgreeAt, MaskKeeps}
+use Rattle.mask_sni.proofs.Masks.{bit_shares-number_of}
 use Rattle.mask_sni.proofs.Members.{Contains-members, length-wires_at}
 
 -- THE BITS OF A MASK
@@ -34,23 +34,8 @@ each-elements f (b ∷ bs) same =
     let rest = each-elements (λ k. f (suc k)) bs (λ k lt. same (suc k) (omega arith)) in
     rw (each-first f (length bs), same 0 (omega arith), rest) refl
 
-lowest_bit : (b : Bool) (n : ℕ) → (bit_at (cond b 1 0 + 2 * n) 0 == 1) ≡ b
-lowest_bit true n = rw bit_at_lowest (let odd : (1 + 2 * n) % 2 ≡ 1 = omega arith in rw odd refl)
-lowest_bit false n = rw bit_at_lowest (let even : (0 + 2 * n) % 2 ≡ 0 = omega arith in rw even refl)
-
-halved : (b : Bool) (n : ℕ) → (cond b 1 0 + 2 * n) / 2 ≡ n
-halved true n = omega arith
-halved false n = omega arith
-
--- bit k of the number with these bits
-bit_of : (bs : List Bool) (k : ℕ) → k < length bs → (bit_at (number_of bs) k == 1) ≡ get_or bs k false
-bit_of [] k lt = absurd (omega arith)
-bit_of (b ∷ bs) zero lt = lowest_bit b (number_of bs)
-bit_of (b ∷ bs) (suc k) lt =
-    rw (bit_at-suc (number_of (b ∷ bs)) k, halved b (number_of bs)) (bit_of bs k (omega arith))
-
 mask_bits-number_of : (bs : List Bool) → mask_bits (length bs) (number_of bs) ≡ bs
-mask_bits-number_of bs = each-elements (λ k. bit_at (number_of bs) k == 1) bs (bit_of bs)
+mask_bits-number_of bs = each-elements (λ k. bit_at (number_of bs) k == 1) bs (λ k lt. bit_shares-number_of bs k)
 
 -- WHAT IS ASKED IS WHAT THE LAW WANTS
 

@@ -5,10 +5,14 @@ use Rattle.std.proofs.lemmas.List.{append-nil, length-map}
 use Rattle.std.proofs.lemmas.List.Elements.{filter-append, Contains-append_left, Contains-push}
 use Rattle.mask_circuit.specs.Wires.{Wire, Share, each}
 use Rattle.mask_circuit.specs.Probing.{size}
-use Rattle.mask_circuit.specs.Need.{ShareSet, left_need, right_need, refresh_need}
+use Rattle.mask_circuit.specs.Need.{ShareSet}
 use Rattle.mask_circuit.proofs.Places.{below_cases}
 use Rattle.mask_laws.proofs.Needs.{needs_are_small}
-use Rattle.mask_sni.specs.Asked.{members, wires_at}
+use Rattle.mask_sni.specs.declared.needs.Operand.{Operand}
+use Rattle.mask_sni.specs.declared.needs.Operand.TheVariants.{First, Second, Only}
+use Rattle.mask_sni.specs.declared.wires.LocalWire.{LocalWire}
+use Rattle.mask_sni.specs.Asked.{members, named, wires_at, wires_of}
+use Rattle.mask_sni.specs.Kinds.{needed}
 
 -- a share more that is in the set, and one that isn't
 pub member_in : (set : ShareSet) (i : ℕ) → set i ≡ true → members (i + 1) set ≡ members i set ++ i ∷ []
@@ -30,26 +34,13 @@ pub length-wires_at : (names : List Wire) (P : List ℕ) → length (wires_at na
 length-wires_at names P = length-map P (λ (p : ℕ). slice_index_or names p (Share 0))
 
 -- the needs are no more than the probes
-pub left_few : (n : ℕ) (names : List Wire) (P : List ℕ) → length (members n (left_need (wires_at names P))) ≤ length P
-left_few n names P =
-    let law = needs_are_small n (wires_at names P) in
-    let count = length-members (left_need (wires_at names P)) n in
-    let probes = length-wires_at names P in
-    let most = law.0 in omega arith
+needed_small : (operand : Operand) (n : ℕ) (Q : List Wire) → size n (needed operand Q) ≤ length Q
+needed_small First n Q = (needs_are_small n Q).0
+needed_small Second n Q = (needs_are_small n Q).1
+needed_small Only n Q = (needs_are_small n Q).2
 
-pub right_few : (n : ℕ) (names : List Wire) (P : List ℕ) → length (members n (right_need (wires_at names P))) ≤ length P
-right_few n names P =
-    let law = needs_are_small n (wires_at names P) in
-    let count = length-members (right_need (wires_at names P)) n in
-    let probes = length-wires_at names P in
-    let most = law.1 in omega arith
-
-pub refresh_few : (n : ℕ) (names : List Wire) (P : List ℕ) → length (members n (refresh_need (wires_at names P))) ≤ length P
-refresh_few n names P =
-    let law = needs_are_small n (wires_at names P) in
-    let count = length-members (refresh_need (wires_at names P)) n in
-    let probes = length-wires_at names P in
-    let most = law.2 in omega arith
+pub needed_few : (operand : Operand) (n : ℕ) (ws : List LocalWire) → length (members n (needed operand (wires_of ws))) ≤ length ws
+needed_few operand n ws = omega (arith, length-members (needed operand (wires_of ws)) n, needed_small operand n (wires_of ws), length-map ws named)
 
 -- a share of the set is among its members
 pub Contains-members : (set : ShareSet) (n i : ℕ) → i < n → set i ≡ true → Contains (members n set) i

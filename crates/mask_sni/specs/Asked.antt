@@ -6,6 +6,7 @@ use Rattle.std.specs.declared.option.Option.{Option}
 use Rattle.mask_circuit.specs.Wires.{Wire, Share, Product, Fresh, Left, Right, Partial, Shares, each}
 use Rattle.mask_circuit.specs.Need.{ShareSet, is_share}
 use Rattle.mask_circuit.specs.Shift.{Sides}
+use Rattle.mask_sni.specs.declared.products.Sides as code
 use Rattle.mask_sni.specs.declared.wires.LocalWire.{LocalWire}
 use Rattle.mask_sni.specs.declared.wires.LocalWire.TheVariants.{OutputShare, Term, FreshBit, LeftSum, RightSum, RowSum}
 
@@ -17,6 +18,10 @@ named (FreshBit i j) = Fresh i j
 named (LeftSum i j) = Left i j
 named (RightSum i j) = Right i j
 named (RowSum i k) = Partial i k
+
+-- the wires that wires of the code are
+abbrev pub wires_of : List LocalWire → List Wire
+wires_of ws = map named ws
 
 -- the number of the output share that a wire is, where it is one
 abbrev pub share_number : Wire → Option ℕ
@@ -60,5 +65,5 @@ abbrev pub operand_shares : ℕ → ℕ → ℕ → Shares Bool
 operand_shares a b u = bit_shares (cond (u == 0) a b)
 
 -- one operand on two sides
-abbrev pub operand_sides : ℕ → ℕ → Sides
-operand_sides a a2 = record { one = bit_shares a; two = bit_shares a2 }
+abbrev pub operand_sides : code.Sides → Sides
+operand_sides a = record { one = bit_shares a.one; two = bit_shares a.two }

@@ -8,14 +8,14 @@ use arrayvec::ArrayVec;
 
 mod needs;
 mod outputs;
+mod partners;
 mod products;
 mod shifts;
 mod wires;
 
 pub use needs::{and_needs, ref_needs};
 pub use outputs::{and_share, ref_share};
-pub use products::and_shift;
-pub use shifts::ref_shift;
+pub use shifts::{and_shift, ref_shift};
 
 /// Share numbers, rising and without repeats.
 pub type Places = ArrayVec<u8, 8>;

@@ -1,11 +1,24 @@
 //! The wires of product and refresh by local number.
 
-ghost use Rattle.std.specs.Prelude.{◌≡◌, ◌+◌, ◌-◌, ◌*◌, ◌/◌, ◌<◌, ◌≤◌, length, slice_index_or};
-ghost use Rattle.mask_circuit.specs.Wires.{Share, Fresh, Left, other, row_wire, product_names, refresh_names};
-ghost use Rattle.mask_circuit.specs.Need.{is_of_row, demands_left, is_update_of};
+ghost use Rattle.std.specs.Prelude.{◌≡◌, ◌+◌, ◌-◌, ◌*◌, ◌/◌, ◌<◌, ◌≤◌, length, slice_index_or, All};
+ghost use Rattle.arrayvec.specs.ArrayVec.{array_vec_len};
+ghost use Rattle.mask_circuit.specs.Wires.{Share, other, row_wire, product_names, refresh_names};
+ghost use Rattle.mask_circuit.specs.Need.{is_of_row, demands_left};
 ghost use Rattle.mask_circuit.specs.Probing.{same_wire};
 ghost use Rattle.mask_circuit.specs.Shift.{wire_between};
 ghost use Rattle.mask_laws.specs.Names.{IsPair, pair_number, pair_count};
+ghost use Rattle.mask_sni.specs.Asked.{named, wires_at, wires_of};
+ghost use Rattle.mask_sni.specs.Kinds.{names_for, pair_wire, touched, touches};
+
+use crate::Probes;
+use arrayvec::ArrayVec;
+
+/// A gate with inner wires.
+#[derive(Clone, Copy)]
+pub(crate) enum Kind {
+    Product,
+    Refresh,
+}
 
 /// A wire of a product or a refresh, by what it carries: a and b are the operands' shares, r the fresh bits.
 #[derive(Clone, Copy)]
@@ -24,11 +37,26 @@ pub(crate) enum LocalWire {
     RowSum(u8, u8),
 }
 
-ghost use Rattle.mask_sni.specs.Asked.{named};
+// An `ArrayVec` fills its free places with it.
+impl Default for LocalWire {
+    fn default() -> LocalWire {
+        LocalWire::OutputShare(0)
+    }
+}
 
 impl LocalWire {
-    /// Whether this wire of a product is a_i · b_i, some r_ij, or a partial sum of row i.
-    pub(crate) fn is_of_row(self, i: u8) -> bool
+    /// Whether a probe on this wire touches share i: row i of a product, or share i of a refresh by an update.
+    pub(crate) fn touches(self, kind: Kind, i: u8) -> bool
+        ensures { result ≡ touches kind i (named self) }
+    {
+        match kind {
+            Kind::Product => self.is_of_row(i),
+            Kind::Refresh => matches!(self, LocalWire::RowSum(k, _) if k == i),
+        }
+    }
+
+    // Whether this wire of a product is a_i · b_i, some r_ij, or a partial sum of row i.
+    fn is_of_row(self, i: u8) -> bool
         ensures { result ≡ is_of_row i (named self) }
     {
         match self {
@@ -43,40 +71,19 @@ impl LocalWire {
     pub(crate) fn demands_left(self, i: u8) -> bool
         ensures { result ≡ demands_left i (named self) }
     {
-        match self {
-            LocalWire::Term(k, _) => k == i,
-            _ => false,
-        }
+        matches!(self, LocalWire::Term(k, _) if k == i)
     }
 
-    /// Whether this wire is the fresh bit of the pair of i and k, in either order.
-    pub(crate) fn is_fresh_between(self, i: u8, k: u8) -> bool
-        ensures { result ≡ same_wire (wire_between Fresh i k) (named self) }
+    /// Whether this is the wire between shares i and k, in either order: v of a product, the fresh bit of a refresh.
+    pub(crate) fn is_between(self, kind: Kind, i: u8, k: u8) -> bool
+        ensures { result ≡ same_wire (wire_between (pair_wire kind) i k) (named self) }
     {
-        match self {
-            LocalWire::FreshBit(lower, higher) if i < k => i == lower && k == higher,
-            LocalWire::FreshBit(lower, higher) => k == lower && i == higher,
-            _ => false,
-        }
-    }
-
-    /// Whether this wire of a product is the sum v of the pair of i and k, in either order.
-    pub(crate) fn is_left_between(self, i: u8, k: u8) -> bool
-        ensures { result ≡ same_wire (wire_between Left i k) (named self) }
-    {
-        match self {
-            LocalWire::LeftSum(lower, higher) if i < k => i == lower && k == higher,
-            LocalWire::LeftSum(lower, higher) => k == lower && i == higher,
-            _ => false,
-        }
-    }
-
-    /// Whether this wire of a refresh is an update of share i.
-    pub(crate) fn is_update_of(self, i: u8) -> bool
-        ensures { result ≡ is_update_of i (named self) }
-    {
-        match self {
-            LocalWire::RowSum(k, _) => k == i,
+        let (lower, higher) = if i < k { (i, k) } else { (k, i) };
+        match (kind, self) {
+            (Kind::Product, LocalWire::LeftSum(first, second))
+            | (Kind::Refresh, LocalWire::FreshBit(first, second)) => {
+                lower == first && higher == second
+            }
             _ => false,
         }
     }
@@ -159,4 +166,40 @@ pub(crate) fn refresh_wire(n: u8, number: u8) -> LocalWire
         1 => row_wire(n, i, j),
         _ => row_wire(n, j, i),
     }
+}
+
+// The wire of this local number in a gate.
+fn wire_at(kind: Kind, n: u8, number: u8) -> LocalWire
+    requires some { 2 ≤ n }
+    requires few { n ≤ 8 }
+    requires known { number < length (names_for n kind) }
+    ensures { named result ≡ slice_index_or (names_for n kind) number (Share 0) }
+{
+    match kind {
+        Kind::Product => product_wire(n, number),
+        Kind::Refresh => refresh_wire(n, number),
+    }
+}
+
+/// The wires that probes are on.
+pub(crate) fn probed_wires(kind: Kind, n: u8, probes: &Probes) -> ArrayVec<LocalWire, 8>
+    requires some { 2 ≤ n }
+    requires few { n ≤ 8 }
+    requires known { All (λ p. p < length (names_for n kind)) probes.now.items }
+    ensures wires { wires_of result.items ≡ wires_at (names_for n kind) probes.now.items }
+    ensures count { array_vec_len result ≡ array_vec_len probes.now }
+{
+    let numbers = probes.as_slice();
+    let mut wires = ArrayVec::new();
+    for &number in numbers {
+        wires.push(wire_at(kind, n, number));
+    }
+    wires
+}
+
+/// Whether a probe on these wires touches share i.
+pub(crate) fn touches(kind: Kind, wires: &[LocalWire], i: u8) -> bool
+    ensures { result ≡ touched kind (wires_of wires.now) i }
+{
+    wires.iter().any(|wire| wire.touches(kind, i))
 }

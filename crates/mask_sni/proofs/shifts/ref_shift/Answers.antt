@@ -1,44 +1,9 @@
-use Rattle.std.proofs.Common.{arith, ap, ◌∙◌}
-use Rattle.mask_circuit.specs.declared.gates.Gate.TheVariants.{Ref}
-use Rattle.mask_circuit.specs.Wires.{Pair, refresh_names}
-use Rattle.mask_circuit.specs.Shift.{refresh_mask}
-use Rattle.mask_laws.proofs.PairNumbers.{small}
-use Rattle.mask_laws.proofs.Symmetry.{mask_is_symmetric}
-use Rattle.mask_sni.specs.Asked.{bit_shares, in_places, number_of, wires_at}
+use Rattle.std.proofs.Common.{rules}
 use Rattle.mask_sni.proofs.Keeping.{refresh_mask_keeps}
-use Rattle.mask_sni.proofs.Masks.{mask_more, mask_all, small_more, small_power}
 use Rattle.mask_sni.proofs.shifts.ref_shift.Goals as goal
 
-pub overflow_add-mask : goal.overflow_add-mask
-overflow_add-mask g c =
-    let few = small g.row.N c.requires.most in
-    let pairs = few.pairs in
-    let power = small_power c.loop-p.p (omega arith) in
-    omega (arith, c.pair_bit-mask.ensures.small)
-
-pub loop-p-preserved : goal.loop-p-preserved
-loop-p-preserved g c = record {
-  bits = mask_more
-      (λ (p : Pair). refresh_mask g.row.N (wires_at (refresh_names g.row.N) c.args.probes.now.items) (in_places c.args.outputs.now.items)
-      (record { one = bit_shares c.args.a; two = bit_shares c.args.a2 }) p.0 p.1)
-      g.row.N _ _ c.loop-p.p c.loop-p.mask c.pair_bit-mask.result _ c.pair_at-i.ensures.pair c.pair_at-i.ensures.number c.loop-p.invariant.bits
-      c.pair_bit-mask.ensures.bit c.is_flipped.ensures;
-  small = small_more c.loop-p.p c.loop-p.mask c.pair_bit-mask.result c.loop-p.invariant.small c.pair_bit-mask.ensures.small;
-}
-
 pub returns-clause-mask : goal.returns-clause-mask
-returns-clause-mask g c =
-    mask_all
-    (λ (p : Pair). refresh_mask g.row.N (wires_at (refresh_names g.row.N) c.args.probes.now.items) (in_places c.args.outputs.now.items)
-    (record { one = bit_shares c.args.a; two = bit_shares c.args.a2 }) p.0 p.1)
-    g.row.N c.loop-p.p c.loop-p.mask (omega arith) c.loop-p.invariant.bits
-
-pub returns-clause-symmetric : goal.returns-clause-symmetric
-returns-clause-symmetric g c =
-    returns-clause-mask g c
-    ∙ ap number_of
-    (mask_is_symmetric g.row.N (Ref 0) (wires_at (refresh_names g.row.N) c.args.probes.now.items) (in_places c.args.outputs.now.items)
-    (λ u. bit_shares c.args.a) (λ u. bit_shares c.args.a2))
+returns-clause-mask g c = search rules
 
 pub returns-clause-keeps : goal.returns-clause-keeps
 returns-clause-keeps g c agree =
