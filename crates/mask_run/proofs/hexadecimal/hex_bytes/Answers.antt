@@ -1,4 +1,4 @@
-use Rattle.std.proofs.Common.{◌≡◌, ℕ, ◌-◌, ◌%◌, Bool, true, false, ◌||◌, ◌&&◌, not, ◌==◌, List, length, get_or, codes, if◌then◌else◌, Some, None, Ok, Err, refl, sym, ◌∙◌, inl, inr, arith}
+use Rattle.std.proofs.Common.{◌≡◌, ℕ, ◌-◌, ◌%◌, Bool, true, false, ◌||◌, ◌&&◌, not, ◌==◌, length, get_or, codes, if◌then◌else◌, Some, None, Ok, Err, refl, sym, ◌∙◌, inl, inr, arith}
 use Rattle.std.proofs.lemmas.List.Sums.{AllPass-from_list_all}
 use Rattle.std.specs.Prelude.{is_some}
 use Rattle.std.specs.List.{AllPass, list_all}
@@ -6,7 +6,6 @@ use Rattle.std.specs.Str.{bytes_eq}
 use Rattle.std.specs.Char.{is_ascii_hexdigit}
 use Rattle.hex.specs.Hex.{decode_of, is_hex_digit}
 use Rattle.hex.specs.declared.error.FromHexError.{FromHexError}
-use Rattle.hex.specs.declared.error.FromHexError.TheVariants.{OutOfMemory}
 use Rattle.hex.proofs.HexLemmas.{decode_of-digits}
 use Rattle.mask_words.specs.WordTests.{Word, is_hex_text}
 use Rattle.mask_run.proofs.hexadecimal.hex_bytes.Goals.{in-OutOfMemory, in_default}
