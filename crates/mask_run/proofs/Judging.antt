@@ -1,5 +1,5 @@
 -- From what reading, judging and writing come to, to what `check` promises.
-use Rattle.std.proofs.Common.{◌≡◌, ℕ, List, [], ◌∷◌, true, false, refl, ap, subst, inl, inr, ◌∙◌}
+use Rattle.std.proofs.Common.{◌≡◌, ℕ, List, [], ◌∷◌, true, false, refl, ap, inl, inr, ◌∙◌}
 use Rattle.std.specs.declared.option.Option.{Option}
 use Rattle.mask_circuit.specs.Netlist.{Netlist}
 use Rattle.mask_circuit.specs.Acceptance.{IsAccepted, IsClash, IsGap}
@@ -9,7 +9,7 @@ use Rattle.mask_run.specs.declared.status.Status.TheVariants.{Done, Refused, Rea
 use Rattle.mask_run.specs.Texts.{Stands, RefusesText, RefusesCircuit, OneOf}
 use Rattle.mask_run.specs.Outside.{Writes}
 use Rattle.mask_run.specs.Checking.{CheckEnds, CheckAnswers, IsJudged, PrintsVerdict, TellsStrong}
-use Rattle.mask_run.proofs.TextLaws.{text_is_one, circuit_unrefused, refused_due, refused_circuit}
+use Rattle.mask_run.proofs.TextLaws.{along, circuit_unrefused, refused_due, refused_circuit}
 
 -- a circuit with a gap isn't strong
 pub TellsStrong-gap : (c : Netlist) (k : ℕ) → IsGap c k → TellsStrong c false
@@ -18,13 +18,13 @@ TellsStrong-gap c k gap = (λ (e : false ≡ true). cc, λ strong. absurd (gap.g
 -- one circuit, so one clash and one refusal
 pub same_refusal : (text : List ℕ) (c d : Netlist) (p s q t : ℕ) → Stands text c → Stands text d → IsClash c p s → IsClash d q t → Refused p s ≡ Refused q t
 same_refusal text c d p s q t stands other found there =
-    let same = clash_is_unique c p s q t found (subst (λ (e : Netlist). IsClash e q t) (text_is_one text d c other stands) there) in
+    let same = clash_is_unique c p s q t found (along (λ (e : Netlist). IsClash e q t) text d c other stands there) in
     ap (λ (x : ℕ). Refused p x) same.1 ∙ ap (λ (x : ℕ). Refused x t) same.0
 
 -- an accepted circuit has no clash, whatever the names
 pub no_clash : (text : List ℕ) (c d : Netlist) (p s : ℕ) → Stands text c → Stands text d → IsAccepted c → IsClash d p s → ⊥
 no_clash text c d p s stands other accepted found =
-    clash_refutes d p s found (subst (λ (e : Netlist). IsAccepted e) (text_is_one text c d stands other) accepted)
+    clash_refutes d p s found (along (λ (e : Netlist). IsAccepted e) text c d stands other accepted)
 
 module _ (text : List ℕ) (c : Netlist) (stands : Stands text c) (before now : Option (List ℕ)) where
   -- the line was written, or a part of it

@@ -11,12 +11,12 @@ use Rattle.mask_run.specs.Hexadecimal.{hex_bytes, FitInputs, IsReport}
 use Rattle.mask_run.specs.Outside.{Outside, IsIdle, Writes, bytes_for}
 use Rattle.mask_run.specs.Calls.{eval_bits, Evaluates}
 use Rattle.mask_run.specs.Evaluating.{IsFit, Prepares, RefusesEval, Prints, EvalEnds, EvalAnswers}
-use Rattle.mask_run.proofs.TextLaws.{text_is_one, circuit_unrefused, refused_due, refused_circuit}
+use Rattle.mask_run.proofs.TextLaws.{along, circuit_unrefused, refused_due, refused_circuit}
 use Rattle.mask_run.proofs.Judging.{same_refusal, no_clash}
 
 -- the bits fit one circuit where they fit another for which the text stands
 fits_along : (text : List ℕ) (hex : Word) (c d : Netlist) → Stands text c → Stands text d → FitInputs (hex_bytes hex) c.inputs → FitInputs (hex_bytes hex) d.inputs
-fits_along text hex c d h k fit = subst (λ (e : Netlist). FitInputs (hex_bytes hex) e.inputs) (text_is_one text c d h k) fit
+fits_along text hex c d h k fit = along (λ (e : Netlist). FitInputs (hex_bytes hex) e.inputs) text c d h k fit
 
 -- an accepted circuit that HEX fits, with the bits of HEX
 module _ (text : List ℕ) (hex : Word) (c : Netlist) (inputs : List Bool) (prepared : Prepares text hex c inputs) (d : ℕ) (o : Outside) where

@@ -1,5 +1,5 @@
 -- From what reading, checking and asking for the needs come to, to what `probe` promises.
-use Rattle.std.proofs.Common.{◌≡◌, ℕ, suc, ◌+◌, ◌<◌, ◌≤◌, List, [], ◌∷◌, length, take, slice_index, refl, sym, ap, subst, inl, inr, ◌∙◌, arith}
+use Rattle.std.proofs.Common.{◌≡◌, ℕ, suc, ◌+◌, ◌<◌, ◌≤◌, List, [], ◌∷◌, length, take, slice_index, refl, sym, ap, inl, inr, ◌∙◌, arith}
 use Rattle.std.proofs.lemmas.Bool.{cases_order}
 use Rattle.std.proofs.lemmas.List.{length-take-le, get_or-take}
 use Rattle.std.specs.declared.option.Option.{Option}
@@ -13,7 +13,7 @@ use Rattle.mask_run.specs.declared.status.Status.TheVariants.{Done, Refused, Bad
 use Rattle.mask_run.specs.Texts.{Stands, RefusesText, RefusesCircuit, OneOf}
 use Rattle.mask_run.specs.Outside.{Writes}
 use Rattle.mask_run.specs.Probing.{IsNeedReport, PrintsNeed, IsBadProbe, RefusesProbes, ProbeEnds, ProbeAnswers}
-use Rattle.mask_run.proofs.TextLaws.{text_is_one, circuit_unrefused, refused_due, refused_circuit}
+use Rattle.mask_run.proofs.TextLaws.{along, circuit_unrefused, refused_due, refused_circuit}
 use Rattle.mask_run.proofs.Judging.{same_refusal, no_clash}
 
 -- a place that fails stands no earlier than one up to which all pass
@@ -77,10 +77,6 @@ ProbeEnds-refused text W d before now status h = h
 -- WHEN EACH ANSWER COMES
 
 module _ (text W : List ℕ) (d : ℕ) where
-  -- the text stands for one circuit
-  along : (P : Netlist → Type 0) (c e : Netlist) → Stands text c → Stands text e → P e → P c
-  along P c e stands other h = subst P (text_is_one text e c other stands) h
-
   -- a report was printed
   printed : (before now : Option (List ℕ)) (status : Status) → PrintsNeed text W d before now status →
       OneOf status (Done ∷ ReadFault ∷ WriteFault ∷ NoMemory ∷ []) → ProbeAnswers text W d status
@@ -88,7 +84,7 @@ module _ (text W : List ℕ) (d : ℕ) where
     refuses = circuit_unrefused text h.circuit status h.stands;
     clash = λ e p s other found. absurd (no_clash text h.circuit e p s h.stands other h.accepted found);
     bad_probe = λ e place other is bad.
-        absurd (no_bad_place h.circuit (suc d) W place h.needs.probes (along (λ (n : Netlist). IsBadProbe n (suc d) W place) h.circuit e h.stands other bad));
+        absurd (no_bad_place h.circuit (suc d) W place h.needs.probes (along (λ (n : Netlist). IsBadProbe n (suc d) W place) text e h.circuit other h.stands bad));
     probed = λ e other is are. one;
   }
 
@@ -116,7 +112,7 @@ module _ (text W : List ℕ) (d : ℕ) where
     refuses = circuit_unrefused text h.0 (BadProbe place) h.1;
     clash = λ e p s other found. absurd (no_clash text h.0 e p s h.1 other h.2 found);
     bad_probe = λ e q other is bad.
-        inl (ap BadProbe (one_place h.0 (suc d) W place q h.3 (along (λ (n : Netlist). IsBadProbe n (suc d) W q) h.0 e h.1 other bad)));
-    probed = λ e other is are. absurd (no_bad_place h.0 (suc d) W place (along (λ (n : Netlist). AreProbes n (suc d) W) h.0 e h.1 other are) h.3);
+        inl (ap BadProbe (one_place h.0 (suc d) W place q h.3 (along (λ (n : Netlist). IsBadProbe n (suc d) W q) text e h.0 other h.1 bad)));
+    probed = λ e other is are. absurd (no_bad_place h.0 (suc d) W place (along (λ (n : Netlist). AreProbes n (suc d) W) text e h.0 other h.1 are) h.3);
   }
   ProbeEnds-answers before now status h = refused status h

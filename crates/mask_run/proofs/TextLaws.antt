@@ -1,9 +1,10 @@
 -- What a text stands for, and what the reader's answers say of a text that is told.
-use Rattle.std.proofs.Common.{◌≡◌, ◌⊎◌, ℕ, ◌<◌, ◌≤◌, List, [], length, None, Some, refl, sym, ◌∙◌, ap, subst, inl, inr, unwrap_or, arith}
+use Rattle.std.proofs.Common.{◌≡◌, ◌⊎◌, ℕ, ◌+◌, ◌<◌, ◌≤◌, List, [], length, None, Some, refl, sym, ◌∙◌, ap, subst, inl, inr, unwrap_or, arith}
 use Rattle.std.proofs.lemmas.List.{append-nil, length-append}
 use Rattle.std.specs.declared.option.Option.{Option}
 use Rattle.mask_circuit.specs.Netlist.{Netlist}
 use Rattle.mask_circuit.specs.Labels.{LabelledNetlist}
+use Rattle.mask_check.specs.Costs.{most_steps}
 use Rattle.mask_text.specs.Text.{IsText}
 use Rattle.mask_text.specs.Faults.{Fault, fault, fault_at}
 use Rattle.mask_text.specs.Answers.{TakesAll, TakesTooMany, Explains}
@@ -39,6 +40,15 @@ pub text_is_one : (text : List ℕ) (c d : Netlist) → Stands text c → Stands
 text_is_one text c d h k =
     let same = labelled_is_one text h.is_text.0 k.is_text.0 h.is_text.1 k.is_text.1 in
     sym h.is_text.2 ∙ ap (λ (l : LabelledNetlist). l.circuit) same ∙ k.is_text.2
+
+-- what holds of one holds of the other
+pub along : (P : Netlist → Type 0) (text : List ℕ) (c d : Netlist) → Stands text c → Stands text d → P c → P d
+along P text c d h k holds = subst P (text_is_one text c d h k) holds
+
+-- as a bound on the steps of its check
+pub checked_within : (text : List ℕ) (c d : Netlist) (before now : ℕ) → Stands text c → Stands text d → now ≤ before + most_steps c →
+    now ≤ before + most_steps d
+checked_within text c d before now h k steps = along (λ (n : Netlist). now ≤ before + most_steps n) text c d h k steps
 
 -- a text has one first fault
 same_fault : (text : List ℕ) (line line' : ℕ) (reason reason' : Reason) → HasFault text line reason → HasFault text line' reason' →

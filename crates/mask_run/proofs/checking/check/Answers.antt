@@ -1,7 +1,4 @@
-use Rattle.std.proofs.Common.{subst, ◌≤◌, ◌+◌}
-use Rattle.mask_circuit.specs.Netlist.{Netlist}
-use Rattle.mask_check.specs.Costs.{most_steps}
-use Rattle.mask_run.proofs.TextLaws.{text_is_one}
+use Rattle.mask_run.proofs.TextLaws.{checked_within}
 use Rattle.mask_run.proofs.Judging.{CheckEnds-written, CheckEnds-unjudged, CheckEnds-refused}
 use Rattle.mask_run.proofs.checking.check.Goals as goal
 
@@ -20,10 +17,8 @@ returns-in-Err-judge-clause-ends g c text told = CheckEnds-unjudged text _ (c.in
 
 pub returns-in-Ok-judge-clause-steps : goal.returns-in-Ok-judge-clause-steps
 returns-in-Ok-judge-clause-steps g c text d told stands =
-    subst (λ (n : Netlist). c.judge.new.steps ≤ c.args.steps.now + most_steps n)
-    (text_is_one text _ d (c.in-Ok.ensures.ok text told).0 stands) c.judge.ensures.steps
+    checked_within text _ d _ _ (c.in-Ok.ensures.ok text told).0 stands c.judge.ensures.steps
 
 pub returns-in-Err-judge-clause-steps : goal.returns-in-Err-judge-clause-steps
 returns-in-Err-judge-clause-steps g c text d told stands =
-    subst (λ (n : Netlist). c.judge.new.steps ≤ c.args.steps.now + most_steps n)
-    (text_is_one text _ d (c.in-Ok.ensures.ok text told).0 stands) c.judge.ensures.steps
+    checked_within text _ d _ _ (c.in-Ok.ensures.ok text told).0 stands c.judge.ensures.steps

@@ -1,10 +1,10 @@
-use Rattle.std.proofs.Common.{◌≡◌, ℕ, ◌≤◌, ◌+◌, ap, ◌∙◌, arith, length, List}
+use Rattle.std.proofs.Common.{◌≡◌, ℕ, ◌≤◌, ◌+◌, arith, length, List}
 use Rattle.mask_circuit.specs.Netlist.{Netlist}
 use Rattle.mask_check.specs.Costs.{most_steps}
 use Rattle.mask_run.specs.Calls.{eval_bits}
 use Rattle.mask_run.specs.Outside.{Outside}
 use Rattle.mask_run.specs.Texts.{Stands}
-use Rattle.mask_run.proofs.TextLaws.{text_is_one}
+use Rattle.mask_run.proofs.TextLaws.{along}
 use Rattle.mask_run.proofs.Printing.{EvalEnds-evaluated, EvalEnds-undrawn}
 use Rattle.mask_run.proofs.evaluating.eval.Goals as goal
 
@@ -18,7 +18,7 @@ returns-in-Ok-evaluated-clause-all_read g c done text told = (c.in-Ok.ensures.ok
 
 -- the circuit that was read is the one for which the text stands
 read_there : (text : List ℕ) (c d : Netlist) (n : ℕ) → Stands text c → Stands text d → eval_bits d n ≡ 0 → eval_bits c n ≡ 0
-read_there text c d n h k none = ap (λ (e : Netlist). eval_bits e n) (text_is_one text c d h k) ∙ none
+read_there text c d n h k none = along (λ (e : Netlist). eval_bits e n ≡ 0) text d c k h none
 
 pub returns-in-Ok-evaluated-clause-idle : goal.returns-in-Ok-evaluated-clause-idle
 returns-in-Ok-evaluated-clause-idle g c text d told stands none =
@@ -36,7 +36,7 @@ returns-clause-idle g c text d told stands none =
 steps_there : (text : List ℕ) (c d : Netlist) (before mid now : ℕ) → Stands text c → Stands text d → mid ≤ before + most_steps d → now ≤ mid + length c.gates →
     now ≤ before + (most_steps d + length d.gates)
 steps_there text c d before mid now h k checked evaluated =
-    let same = ap (λ (e : Netlist). length e.gates) (text_is_one text c d h k) in omega arith
+    let gates = along (λ (e : Netlist). now ≤ mid + length e.gates) text c d h k evaluated in omega arith
 
 pub returns-in-Ok-evaluated-clause-steps : goal.returns-in-Ok-evaluated-clause-steps
 returns-in-Ok-evaluated-clause-steps g c text d told stands =

@@ -1,9 +1,8 @@
-use Rattle.std.proofs.Common.{refl, subst, ℕ, ◌≤◌, ◌+◌, sym}
+use Rattle.std.proofs.Common.{refl, subst, ℕ, sym}
 use Rattle.mask_circuit.specs.Netlist.{Netlist}
-use Rattle.mask_check.specs.Costs.{most_steps}
 use Rattle.mask_run.specs.Hexadecimal.{IsInputOf, FitInputs, hex_bytes}
 use Rattle.mask_run.specs.Texts.{Stands}
-use Rattle.mask_run.proofs.TextLaws.{text_is_one}
+use Rattle.mask_run.proofs.TextLaws.{checked_within}
 use Rattle.mask_run.proofs.Printing.{RefusesEval-text, RefusesEval-circuit}
 use Rattle.mask_run.proofs.evaluating.prepare.Goals as goal
 
@@ -32,8 +31,7 @@ returns-in-Ok-admitted-clause-ok g c text told =
 
 pub returns-in-Ok-admitted-clause-steps : goal.returns-in-Ok-admitted-clause-steps
 returns-in-Ok-admitted-clause-steps g c text d told stands =
-    subst (λ (n : Netlist). c.admitted.new.steps ≤ c.args.steps.now + most_steps n)
-    (text_is_one text _ d (c.in-Ok.ensures.ok text told).0 stands) c.admitted.ensures.steps
+    checked_within text _ d _ _ (c.in-Ok.ensures.ok text told).0 stands c.admitted.ensures.steps
 
 pub returns-in-Err-admitted-clause-err : goal.returns-in-Err-admitted-clause-err
 returns-in-Err-admitted-clause-err g c text told =
@@ -44,5 +42,4 @@ returns-in-Err-admitted-clause-err g c text told =
 
 pub returns-in-Err-admitted-clause-steps : goal.returns-in-Err-admitted-clause-steps
 returns-in-Err-admitted-clause-steps g c text d told stands =
-    subst (λ (n : Netlist). c.admitted.new.steps ≤ c.args.steps.now + most_steps n)
-    (text_is_one text _ d (c.in-Ok.ensures.ok text told).0 stands) c.admitted.ensures.steps
+    checked_within text _ d _ _ (c.in-Ok.ensures.ok text told).0 stands c.admitted.ensures.steps
