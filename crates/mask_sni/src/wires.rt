@@ -39,6 +39,10 @@ pub(crate) enum LocalWire {
 
 // An `ArrayVec` fills its free places with it.
 impl Default for LocalWire {
+    ghost use Rattle.mask_sni.specs.declared.wires.LocalWire.TheVariants.{OutputShare};
+
+    ghost is_default = { λ wire. wire ≡ OutputShare 0 };
+
     fn default() -> LocalWire {
         LocalWire::OutputShare(0)
     }
