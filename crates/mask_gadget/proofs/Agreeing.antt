@@ -1,6 +1,6 @@
 -- A gate on n shares reads no share from n on: operands that agree below n give the same wires and output shares. With it a
 -- caller goes from lists of shares to whatever numbers the shares of its values.
-use Rattle.std.proofs.Common.{◌≡◌, ℕ, pred, ◌<◌, ◌≤◌, List, [], ◌∷◌, map, Contains, refl, ap, arith}
+use Rattle.std.proofs.Common.{◌≡◌, ℕ, pred, ◌<◌, ◌≤◌, map, refl, ap, arith}
 use Rattle.mask_circuit.specs.Ring.{Ring}
 use Rattle.mask_circuit.specs.declared.gates.Gate.TheVariants.{Zero, And, Ref}
 use Rattle.mask_circuit.specs.Wires.{Wire, Share, Product, Fresh, Left, Right, Partial, Shares, row_sum, cross, product_wire, product_names, fresh_between, refresh_wire, refresh_names, share_names}

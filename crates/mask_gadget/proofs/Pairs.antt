@@ -1,23 +1,44 @@
 -- The wires of the pairs of a product, one pair after another.
-use Rattle.std.proofs.Common.{◌≡◌, ℕ, suc, ◌+◌, ◌-◌, ◌<◌, List, [], ◌∷◌, ◌++◌, length, map, drop, get_or, bit_xor, bit_and, refl, ◌∙◌, arith, append_assoc, flat_map}
+use Rattle.std.proofs.Common.{◌≡◌, ℕ, suc, ◌+◌, ◌-◌, ◌<◌, ◌≤◌, inl, inr, List, [], ◌∷◌, ◌++◌, length, map, drop, get_or, bit_xor, bit_and, refl, sym, ◌∙◌, arith, append_assoc, flat_map}
 use Rattle.std.proofs.lemmas.List.{get_or-take, get_or-drop, map-append}
 use Rattle.mask_circuit.specs.Ring.{words}
-use Rattle.mask_circuit.specs.Wires.{Pair, Shares, joined, row_pairs, pairs, fresh_of, product_wire}
-use Rattle.mask_laws.specs.Names.{pair_number}
+use Rattle.mask_circuit.specs.Wires.{Pair, Shares, joined, row_pairs, pairs, product_wire}
+use Rattle.mask_laws.specs.Names.{pairs_before, pair_number}
 use Rattle.mask_tape.specs.Drawn.{Drawn}
-use Rattle.mask_gadget.specs.Gadgets.{coins_of, pair_names, pair_row}
+use Rattle.mask_circuit.proofs.Places.{below_cases}
+use Rattle.mask_gadget.specs.Gadgets.{IsAtRow, coins_of, pair_coin, pair_names, pair_row}
 use Rattle.mask_laws.proofs.Lookup.{fresh_of-at}
 use Rattle.mask_gadget.proofs.Made.{flat_map-each, flat_map-joined, joined-same, joined-more}
-use Rattle.mask_laws.proofs.PairNumbers.{length-pairs, pair_number-lt}
+use Rattle.mask_laws.proofs.PairNumbers.{length-pairs, pair_number-lt, pairs_before-all, pairs_before-more}
 
 -- the coin of a pair
 pub coin_at : (coins : Drawn) (n i j : ℕ) → i < j → j < n →
-    fresh_of words (pairs n) (coins_of n coins) i j ≡ get_or coins.words (coins.used + pair_number n i j) 0
+    pair_coin n coins i j ≡ get_or coins.words (coins.used + pair_number n i j) 0
 coin_at coins n i j low high =
     let within : pair_number n i j < length (pairs n) = rw (length-pairs n) (pair_number-lt n i j low high) in
     fresh_of-at words (coins_of n coins) n i j (low, high)
     ∙ get_or-take (length (pairs n)) (drop coins.used coins.words) (pair_number n i j) 0 within
     ∙ get_or-drop coins.used coins.words (pair_number n i j) 0
+
+-- the coin of a pair of row i, where those of the row's pairs before it are used
+pub coin_next : (n i j : ℕ) (first row coins : Drawn) → i < j → j < n → IsAtRow n i first row → coins.words ≡ row.words →
+    coins.used ≡ row.used + (j - suc i) → get_or coins.words coins.used 0 ≡ pair_coin n first i j
+coin_next n i j first row coins low high at same used =
+    let place : coins.used ≡ first.used + pair_number n i j = omega (arith, at.used) in
+    rw (same, at.same, place) (sym (coin_at first n i j low high))
+
+-- the coins of a row are among all of them
+pub row_within : (n i : ℕ) → i < n → pairs_before n i + (n - suc i) ≤ length (pairs n)
+row_within n i lt = elim (below_cases i (n - 1) (omega arith)) [
+  | inl below ↦ let last = pair_number-lt n i (n - 1) below (omega arith) in omega (arith, length-pairs n)
+  | inr here ↦ let all = pairs_before-all n (suc i) (omega arith) in omega arith
+]
+
+-- after a row of pairs comes the next
+pub next_row : (n i : ℕ) (first coins coins' : Drawn) → IsAtRow n i first coins → coins'.words ≡ coins.words → coins'.used ≡ coins.used + (n - suc i) →
+    IsAtRow n (i + 1) first coins'
+next_row n i first coins coins' at same used =
+    record { same = same ∙ at.same; used = let more = pairs_before-more n i in omega (arith, at.used) }
 
 -- what is made pair by pair is made row by row
 pub by_rows : {A : Type 0} (f : ℕ → ℕ → List A) (n : ℕ) →

@@ -6,32 +6,23 @@ use Rattle.mask_circuit.specs.Ring.{words}
 use Rattle.mask_circuit.specs.Wires.{Wire, Share, Fresh, Shares, row_wire, fresh_between, refresh_wire, joined, refresh_names}
 use Rattle.mask_circuit.proofs.Places.{below_cases}
 use Rattle.mask_gadget.proofs.Pairs.{by_rows}
-use Rattle.mask_gadget.proofs.Rows.{row_before, row_before-own, row_before-more, row_wire-sum}
+use Rattle.mask_gadget.specs.Gadgets.{RowsDone, refreshed, update_names, update_row}
+use Rattle.mask_gadget.proofs.Rows.{row_before-own, row_before-more, row_wire-sum}
 
 module _ (n : ℕ) (a : Shares ℕ) (r : ℕ → ℕ → ℕ) where
-  -- share k with the fresh bits of its pairs with the shares below c
-  abbrev pub refreshed : ℕ → ℕ → ℕ
-  refreshed k c = row_before words (a k) (fresh_between r k) k c
-
-  -- the pairs of the rows before i were taken
-  pub record RowsDone (i : ℕ) (parts : List ℕ) : Type 0 where
-    pub count : length parts ≡ n
-    pub complete : (k : ℕ) → k < i → get_or parts k 0 ≡ refreshed k n
-    pub begun : (k : ℕ) → i ≤ k → k < n → get_or parts k 0 ≡ refreshed k i
-
-  -- and so were the pairs of i and the shares below j
+  -- beside the rows before i, the pairs of i and the shares below j were taken
   pub record ColumnsDone (i j : ℕ) (parts : List ℕ) : Type 0 where
     pub count : length parts ≡ n
-    pub complete : (k : ℕ) → k < i → get_or parts k 0 ≡ refreshed k n
-    pub own : get_or parts i 0 ≡ refreshed i j
-    pub passed : (k : ℕ) → i < k → k < j → get_or parts k 0 ≡ refreshed k (suc i)
-    pub begun : (k : ℕ) → j ≤ k → k < n → get_or parts k 0 ≡ refreshed k i
+    pub complete : (k : ℕ) → k < i → get_or parts k 0 ≡ refreshed a r k n
+    pub own : get_or parts i 0 ≡ refreshed a r i j
+    pub passed : (k : ℕ) → i < k → k < j → get_or parts k 0 ≡ refreshed a r k (suc i)
+    pub begun : (k : ℕ) → j ≤ k → k < n → get_or parts k 0 ≡ refreshed a r k i
 
-  pub none_done : (parts : List ℕ) → length parts ≡ n → ((k : ℕ) → get_or parts k 0 ≡ a k) → RowsDone 0 parts
+  pub none_done : (parts : List ℕ) → length parts ≡ n → ((k : ℕ) → get_or parts k 0 ≡ a k) → RowsDone n a r 0 parts
   none_done parts count same = record { count = count; complete = λ k lt. absurd (omega arith); begun = λ k le lt. same k }
 
   -- a row begins ..
-  pub row_begins : (i : ℕ) (parts : List ℕ) → i < n → RowsDone i parts → ColumnsDone i (i + 1) parts
+  pub row_begins : (i : ℕ) (parts : List ℕ) → i < n → RowsDone n a r i parts → ColumnsDone i (i + 1) parts
   row_begins i parts lt done = record {
     count = done.count;
     complete = done.complete;
@@ -41,7 +32,7 @@ module _ (n : ℕ) (a : Shares ℕ) (r : ℕ → ℕ → ℕ) where
   }
 
   -- .. and ends
-  pub row_ends : (i j : ℕ) (parts : List ℕ) → i < n → j ≡ n → ColumnsDone i j parts → RowsDone (i + 1) parts
+  pub row_ends : (i j : ℕ) (parts : List ℕ) → i < n → j ≡ n → ColumnsDone i j parts → RowsDone n a r (i + 1) parts
   row_ends i j parts lt e done = record {
     count = done.count;
     complete = λ k hk. elim (below_cases k i (omega arith)) [
@@ -52,13 +43,13 @@ module _ (n : ℕ) (a : Shares ℕ) (r : ℕ → ℕ → ℕ) where
   }
 
   -- the two shares of a pair with its coin
-  low_share : (i j : ℕ) → i < j → bit_xor (refreshed i j) (r i j) ≡ refreshed i (suc j)
+  low_share : (i j : ℕ) → i < j → bit_xor (refreshed a r i j) (r i j) ≡ refreshed a r i (suc j)
   low_share i j low =
-      sym (row_before-more words (a i) (fresh_between r i) i j (omega arith) ∙ ap (bit_xor (refreshed i j)) (rw (lt-ltb i j low) refl))
+      sym (row_before-more words (a i) (fresh_between r i) i j (omega arith) ∙ ap (bit_xor (refreshed a r i j)) (rw (lt-ltb i j low) refl))
 
-  high_share : (i j : ℕ) → i < j → bit_xor (refreshed j i) (r i j) ≡ refreshed j (suc i)
+  high_share : (i j : ℕ) → i < j → bit_xor (refreshed a r j i) (r i j) ≡ refreshed a r j (suc i)
   high_share i j low =
-      sym (row_before-more words (a j) (fresh_between r j) j i (omega arith) ∙ ap (bit_xor (refreshed j i)) (rw (le-ltb j i (omega arith)) refl))
+      sym (row_before-more words (a j) (fresh_between r j) j i (omega arith) ∙ ap (bit_xor (refreshed a r j i)) (rw (le-ltb j i (omega arith)) refl))
 
   -- one pair more
   pub pair_done : (i j coin : ℕ) (parts : List ℕ) → i < j → j < n → coin ≡ r i j → ColumnsDone i j parts →
@@ -93,16 +84,12 @@ module _ (n : ℕ) (a : Shares ℕ) (r : ℕ → ℕ → ℕ) where
       rw (first, second, done.own, done.begun j (omega arith) high, coin_is, low_share i j low, high_share i j low) refl
 
   -- at the end each share is an output share
-  pub all_done : (i : ℕ) (parts : List ℕ) → i ≡ n → 0 < n → RowsDone i parts → (k : ℕ) → k < n → get_or parts k 0 ≡ refresh_wire words n a r (Share k)
+  pub all_done : (i : ℕ) (parts : List ℕ) → i ≡ n → 0 < n → RowsDone n a r i parts → (k : ℕ) → k < n → get_or parts k 0 ≡ refresh_wire words n a r (Share k)
   all_done i parts e some done k lt =
       let last : n ≡ suc (pred n) = omega arith in
-      done.complete k (omega arith) ∙ ap (refreshed k) last
-
--- the three names of a pair in a refresh
-abbrev pub update_names : ℕ → ℕ → ℕ → List Wire
-update_names n i j = Fresh i j ∷ row_wire n i j ∷ row_wire n j i ∷ []
+      done.complete k (omega arith) ∙ ap (refreshed a r k) last
 
 -- all rows are all wires
 pub all_updates : (n : ℕ) (W : Wire → ℕ) (items : List ℕ) (i : ℕ) → i ≡ n →
-    items ≡ map W (joined (λ k. joined (λ m. update_names n k (suc k + m)) (n - suc k)) i) → items ≡ map W (refresh_names n)
+    items ≡ map W (joined (λ k. update_row n k (n - suc k)) i) → items ≡ map W (refresh_names n)
 all_updates n W items i e items_are = items_are ∙ rw (e, ← by_rows (update_names n) n) refl

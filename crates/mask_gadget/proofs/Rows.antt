@@ -3,11 +3,7 @@ use Rattle.std.proofs.Common.{◌≡◌, ◌≢◌, ℕ, zero, suc, pred, ◌-�
 use Rattle.std.proofs.lemmas.Bool.{cases_lt, and_parts, lt-ltb, le-ltb, eqb-false}
 use Rattle.mask_circuit.specs.Ring.{Ring}
 use Rattle.mask_circuit.specs.Wires.{Wire, Share, Partial, other, is_last, row_wire, row_sum}
-
--- first plus the terms of the columns below c, but for column i
-abbrev pub row_before : {X : Type 0} → Ring X → X → (ℕ → X) → ℕ → ℕ → X
-row_before R first term i zero = first
-row_before R first term i (suc c) = row_sum R first term i c
+use Rattle.mask_gadget.specs.Gadgets.{row_before}
 
 -- column i adds nothing ..
 pub row_before-own : {X : Type 0} (R : Ring X) (first : X) (term : ℕ → X) (i c : ℕ) → i ≡ c → row_before R first term i (suc c) ≡ row_before R first term i c

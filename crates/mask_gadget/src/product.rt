@@ -4,11 +4,11 @@ ghost use Rattle.std.specs.Prelude.{◌≡◌, ℕ, suc, ◌+◌, ◌-◌, ◌*�
 ghost use Rattle.mask_bits.specs.Lanes.{lane};
 ghost use Rattle.mask_circuit.specs.declared.gates.Gate.TheVariants.{And};
 ghost use Rattle.mask_circuit.specs.Ring.{bits, words};
-ghost use Rattle.mask_circuit.specs.Wires.{each, joined, pairs, other, row_sum, product_wire, fresh_of, gate_out, gate_wires};
+ghost use Rattle.mask_circuit.specs.Wires.{each, joined, pairs, other, row_sum, product_wire, gate_out, gate_wires};
 ghost use Rattle.mask_laws.specs.Names.{pair_number, pair_count};
 ghost use Rattle.mask_shares.specs.Sharing.{listed, all_listed, unmasked};
-ghost use Rattle.mask_tape.specs.Drawn.{left};
-ghost use Rattle.mask_gadget.specs.Gadgets.{coins_of, pair_row, cross_place};
+ghost use Rattle.mask_tape.specs.Drawn.{Drawn, left};
+ghost use Rattle.mask_gadget.specs.Gadgets.{IsAtRow, coins_of, pair_coin, pair_row, cross_place};
 
 use crate::Wires;
 use mask_shares::Shares;
@@ -46,7 +46,7 @@ pub fn and_gadget<const N: usize>(
     push_pairs(&x, &y, coins, wires);
     let mut parts = [0; N];
     for i in 0..N {
-        parts[i] = push_row::<N>(i, wires);
+        parts[i] = push_row_of_sums::<N>(i, wires);
     }
     Shares::from_parts(parts)
 }
@@ -62,10 +62,22 @@ fn push_products<const N: usize>(x: &Shares<N>, y: &Shares<N>, wires: &mut Wires
 {
     prove!(x.count() == N);
     prove!(y.count() == N);
-    'rows: for i in 0..N {
-        'columns: for j in 0..N {
-            wires.push(x.share(i) & y.share(j));
-        }
+    for i in 0..N {
+        push_row_of_products(i, x, y, wires);
+    }
+}
+
+// Appends a_i · b_j for each j.
+fn push_row_of_products<const N: usize>(i: usize, x: &Shares<N>, y: &Shares<N>, wires: &mut Wires)
+    requires few { N ≤ 8 }
+    requires row { i < N }
+    requires room { length wires.old.items ≡ i * N }
+    ensures items { wires.new.items
+        ≡ wires.old.items ++ each (λ j. bit_and (slice_index x.now i) (slice_index y.now j)) N }
+    ensures count { length wires.new.items ≡ length wires.old.items + N }
+{
+    for j in 0..N {
+        wires.push(x.share(i) & y.share(j));
     }
 }
 
@@ -75,27 +87,47 @@ fn push_pairs<const N: usize>(x: &Shares<N>, y: &Shares<N>, coins: &mut Coins, w
     requires coins { length (pairs N) ≤ left coins.old }
     requires room { length wires.old.items ≤ N * N }
     ensures items { wires.new.items ≡ wires.old.items
-        ++ map (product_wire words N (listed words x.now) (listed words y.now)
-        (fresh_of words (pairs N) (coins_of N coins.old)))
+        ++ map (product_wire words N (listed words x.now) (listed words y.now) (pair_coin N coins.old))
         (joined (λ i. pair_row i (N - suc i)) N) }
     ensures count { length wires.new.items ≡ length wires.old.items + 3 * length (pairs N) }
     ensures spent { coins.new.used ≡ coins.old.used + length (pairs N) }
     ensures same { coins.new.words ≡ coins.old.words }
 {
-    'rows: for i in 0..N {
-        'columns: for j in i + 1..N {
-            let fresh = coins.next();
-            // The coin hides the first term before the second is added.
-            let left = fresh ^ (x.share(i) & y.share(j));
-            wires.push(fresh);
-            wires.push(left);
-            wires.push(left ^ (x.share(j) & y.share(i)));
-        }
+    for i in 0..N {
+        push_row_of_pairs(i, x, y, coins, wires);
+    }
+}
+
+// Appends these for the pairs of share `i` with each later share.
+fn push_row_of_pairs<const N: usize>(
+    i: usize,
+    x: &Shares<N>,
+    y: &Shares<N>,
+    coins: &mut Coins,
+    wires: &mut Wires,
+)
+    requires few { N ≤ 8 }
+    requires row { i < N }
+    requires coins { N - suc i ≤ left coins.old }
+    requires room { length wires.old.items + 3 * (N - suc i) ≤ 204 }
+    ensures items { (first : Drawn) → IsAtRow N i first coins.old → wires.new.items ≡ wires.old.items
+        ++ map (product_wire words N (listed words x.now) (listed words y.now) (pair_coin N first)) (pair_row i (N - suc i)) }
+    ensures count { length wires.new.items ≡ length wires.old.items + 3 * (N - suc i) }
+    ensures spent { coins.new.used ≡ coins.old.used + (N - suc i) }
+    ensures same { coins.new.words ≡ coins.old.words }
+{
+    for j in i + 1..N {
+        let fresh = coins.next();
+        // The coin hides the first term before the second is added.
+        let left = fresh ^ (x.share(i) & y.share(j));
+        wires.push(fresh);
+        wires.push(left);
+        wires.push(left ^ (x.share(j) & y.share(i)));
     }
 }
 
 // Appends the partial sums of row `i`, and returns the last.
-fn push_row<const N: usize>(i: usize, wires: &mut Wires) -> u64
+fn push_row_of_sums<const N: usize>(i: usize, wires: &mut Wires) -> u64
     requires some { 2 ≤ N }
     requires few { N ≤ 8 }
     requires row { i < N }

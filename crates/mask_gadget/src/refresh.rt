@@ -1,13 +1,13 @@
 //! The refresh of a value: the same value under shares that are new.
 
-ghost use Rattle.std.specs.Prelude.{◌≡◌, ℕ, ◌+◌, ◌<◌, ◌≤◌, [], ◌∷◌, ◌++◌, length, slice_index, slice_set, bit_xor};
+ghost use Rattle.std.specs.Prelude.{◌≡◌, ℕ, suc, ◌+◌, ◌-◌, ◌*◌, ◌<◌, ◌≤◌, [], ◌∷◌, ◌++◌, length, map, slice_index, slice_set, bit_xor};
 ghost use Rattle.mask_bits.specs.Lanes.{lane};
 ghost use Rattle.mask_circuit.specs.declared.gates.Gate.TheVariants.{Ref};
 ghost use Rattle.mask_circuit.specs.Ring.{bits, words};
-ghost use Rattle.mask_circuit.specs.Wires.{pairs, gate_out, gate_wires};
+ghost use Rattle.mask_circuit.specs.Wires.{pairs, refresh_wire, gate_out, gate_wires};
 ghost use Rattle.mask_shares.specs.Sharing.{all_listed, unmasked};
-ghost use Rattle.mask_tape.specs.Drawn.{left};
-ghost use Rattle.mask_gadget.specs.Gadgets.{coins_of};
+ghost use Rattle.mask_tape.specs.Drawn.{Drawn, left};
+ghost use Rattle.mask_gadget.specs.Gadgets.{IsAtRow, RowsDone, coins_of, pair_coin, update_row};
 
 use crate::Wires;
 use mask_shares::Shares;
@@ -35,10 +35,8 @@ pub fn ref_gadget<const N: usize>(x: Shares<N>, coins: &mut Coins, wires: &mut W
 {
     wires.clear();
     let mut parts = parts_of(&x);
-    'rows: for i in 0..N {
-        'columns: for j in i + 1..N {
-            add_to_pair(&mut parts, i, j, coins.next(), wires);
-        }
+    for i in 0..N {
+        add_to_row(&mut parts, i, coins, wires);
     }
     Shares::from_parts(parts)
 }
@@ -55,6 +53,25 @@ fn parts_of<const N: usize>(x: &Shares<N>) -> [u64; N]
         parts[i] = x.share(i);
     }
     parts
+}
+
+// Adds a coin to each pair of share `i` with a later share.
+fn add_to_row<const N: usize>(parts: &mut [u64; N], i: usize, coins: &mut Coins, wires: &mut Wires)
+    requires few { N ≤ 8 }
+    requires row { i < N }
+    requires coins { N - suc i ≤ left coins.old }
+    requires room { length wires.old.items + 3 * (N - suc i) ≤ 204 }
+    ensures parts { (a : ℕ → ℕ) (first : Drawn) → IsAtRow N i first coins.old → RowsDone N a (pair_coin N first) i parts.old →
+        RowsDone N a (pair_coin N first) (i + 1) parts.new }
+    ensures items { (a : ℕ → ℕ) (first : Drawn) → IsAtRow N i first coins.old → RowsDone N a (pair_coin N first) i parts.old →
+        wires.new.items ≡ wires.old.items ++ map (refresh_wire words N a (pair_coin N first)) (update_row N i (N - suc i)) }
+    ensures count { length wires.new.items ≡ length wires.old.items + 3 * (N - suc i) }
+    ensures spent { coins.new.used ≡ coins.old.used + (N - suc i) }
+    ensures same { coins.new.words ≡ coins.old.words }
+{
+    for j in i + 1..N {
+        add_to_pair(parts, i, j, coins.next(), wires);
+    }
 }
 
 // Adds a coin to two shares, and appends the coin and the two.

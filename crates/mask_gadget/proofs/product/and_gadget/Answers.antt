@@ -3,11 +3,11 @@ use Rattle.std.proofs.lemmas.List.{append-nil, length-set, length-replicate}
 use Rattle.std.proofs.lemmas.List.Edits.{fill_by_more}
 use Rattle.mask_circuit.specs.declared.gates.Gate.TheVariants.{And}
 use Rattle.mask_circuit.specs.Ring.{words}
-use Rattle.mask_circuit.specs.Wires.{Wire, Share, pairs, product_wire, fresh_of}
+use Rattle.mask_circuit.specs.Wires.{Wire, Share, product_wire}
 use Rattle.mask_bits.specs.Lanes.{lane}
 use Rattle.mask_shares.specs.Sharing.{listed}
 use Rattle.mask_shares.proofs.Lists.{is_each}
-use Rattle.mask_gadget.specs.Gadgets.{coins_of}
+use Rattle.mask_gadget.specs.Gadgets.{coins_of, pair_coin}
 use Rattle.mask_gadget.proofs.Made.{map-each}
 use Rattle.mask_laws.proofs.PairNumbers.{length-pairs}
 use Rattle.mask_gadget.proofs.Products.{front, front_made, rows_more, share_more, all_made}
@@ -17,7 +17,7 @@ use Rattle.mask_gadget.proofs.product.and_gadget.Goals as goal
 
 pub loop-i-init : goal.loop-i-init
 loop-i-init g c =
-    let r : ℕ → ℕ → ℕ = fresh_of words (pairs g.row.N) (coins_of g.row.N c.args.coins.now) in
+    let r : ℕ → ℕ → ℕ = pair_coin g.row.N c.args.coins.now in
     let made = front_made g.row.N (listed words c.args.x) (listed words c.args.y) r c.push_products.new.wires.items c.push_pairs.new.wires.items
     c.push_products.ensures.items c.push_pairs.ensures.items in
     record {
@@ -29,13 +29,13 @@ loop-i-init g c =
 
 pub loop-i-preserved : goal.loop-i-preserved
 loop-i-preserved g c =
-    let r : ℕ → ℕ → ℕ = fresh_of words (pairs g.row.N) (coins_of g.row.N c.args.coins.now) in
+    let r : ℕ → ℕ → ℕ = pair_coin g.row.N c.args.coins.now in
     let lt : c.loop-i.i < g.row.N = omega arith in
-    let share = share_more g.row.N (listed words c.args.x) (listed words c.args.y) r c.loop-i.wires.items c.loop-i.i c.push_row.result lt
-    c.loop-i.invariant.items c.push_row.ensures.sum in
+    let share = share_more g.row.N (listed words c.args.x) (listed words c.args.y) r c.loop-i.wires.items c.loop-i.i c.push_row_of_sums.result lt
+    c.loop-i.invariant.items c.push_row_of_sums.ensures.sum in
     record {
-      items = rows_more g.row.N (listed words c.args.x) (listed words c.args.y) r c.loop-i.wires.items c.push_row.new.wires.items c.loop-i.i lt
-          c.loop-i.invariant.items c.push_row.ensures.items;
+      items = rows_more g.row.N (listed words c.args.x) (listed words c.args.y) r c.loop-i.wires.items c.push_row_of_sums.new.wires.items c.loop-i.i lt
+          c.loop-i.invariant.items c.push_row_of_sums.ensures.items;
       count = omega arith;
       parts = simp length-set c.loop-i.invariant.parts;
       done = rw share
@@ -45,7 +45,7 @@ loop-i-preserved g c =
 
 pub returns-clause-words : goal.returns-clause-words
 returns-clause-words g c =
-    let r : ℕ → ℕ → ℕ = fresh_of words (pairs g.row.N) (coins_of g.row.N c.args.coins.now) in
+    let r : ℕ → ℕ → ℕ = pair_coin g.row.N c.args.coins.now in
     let W : Wire → ℕ = product_wire words g.row.N (listed words c.args.x) (listed words c.args.y) r in
     c.from_parts.ensures.value
     ∙ is_each (λ k. W (Share k)) g.row.N c.loop-i.parts c.loop-i.invariant.parts (λ k lt. c.loop-i.invariant.done k (omega arith))
@@ -53,7 +53,7 @@ returns-clause-words g c =
 
 pub returns-clause-word_wires : goal.returns-clause-word_wires
 returns-clause-word_wires g c =
-    let r : ℕ → ℕ → ℕ = fresh_of words (pairs g.row.N) (coins_of g.row.N c.args.coins.now) in
+    let r : ℕ → ℕ → ℕ = pair_coin g.row.N c.args.coins.now in
     all_made g.row.N (listed words c.args.x) (listed words c.args.y) r c.loop-i.wires.items c.loop-i.i (omega arith) c.loop-i.invariant.items
 
 pub returns-clause-shares : goal.returns-clause-shares

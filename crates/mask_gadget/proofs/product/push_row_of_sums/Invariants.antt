@@ -3,7 +3,7 @@ use Rattle.mask_circuit.specs.Ring.{words}
 use Rattle.mask_circuit.specs.Wires.{each, other, row_sum}
 use Rattle.mask_gadget.specs.Gadgets.{cross_place}
 use Rattle.mask_gadget.proofs.Rows.{partial}
-use Rattle.mask_gadget.proofs.product.push_row.Given as goal
+use Rattle.mask_gadget.proofs.product.push_row_of_sums.Given as goal
 
 abbrev pub invariant-loop-m : goal.invariant-loop-m
 invariant-loop-m g l = record {

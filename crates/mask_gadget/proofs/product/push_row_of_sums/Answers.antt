@@ -5,7 +5,7 @@ use Rattle.mask_gadget.specs.Gadgets.{cross_place}
 use Rattle.mask_gadget.proofs.Made.{each-more}
 use Rattle.mask_gadget.proofs.Rows.{partial-end}
 use Rattle.mask_gadget.proofs.Products.{sum_more}
-use Rattle.mask_gadget.proofs.product.push_row.Goals as goal
+use Rattle.mask_gadget.proofs.product.push_row_of_sums.Goals as goal
 
 pub loop-m-preserved : goal.loop-m-preserved
 loop-m-preserved g c =
