@@ -8,7 +8,7 @@ use Rattle.mask_circuit.specs.Netlist.{Netlist}
 use Rattle.mask_circuit.specs.Value.{xor}
 use Rattle.mask_circuit.specs.Ring.{bits}
 use Rattle.mask_circuit.specs.Wires.{Wire, Fresh, Left, Shares, pairs, row_sum, gate_draws, gate_wire}
-use Rattle.mask_circuit.specs.Expansion.{Place, Trace, shares_of, put, start}
+use Rattle.mask_circuit.specs.Expansion.{CircuitWire, Carried, shares_of, put, start}
 use Rattle.mask_circuit.specs.Probing.{same_wire}
 use Rattle.mask_circuit.specs.Need.{ShareSet, inner_probes, product_rows, refresh_need, need_from, probes_at}
 
@@ -102,7 +102,7 @@ add_bits (b ∷ bs) (m ∷ ms) = xor b m ∷ add_bits bs ms
 
 -- Gate by gate forwards: t has the wires on the first side with the given tape r, t' those on the second side with the
 -- new tape so far. The first of the gates makes value n. The new tape is as long as the given one.
-abbrev pub shift_from : List Place → ℕ → List Gate → ℕ → Trace Bool → Trace Bool → List Bool → List Bool
+abbrev pub shift_from : List CircuitWire → ℕ → List Gate → ℕ → Carried Bool → Carried Bool → List Bool → List Bool
 shift_from P N [] n t t' r = r
 shift_from P N (g ∷ gs) n t t' r =
     let old = take (gate_draws N g) r in

@@ -36,5 +36,5 @@ pub mod Strengthening
 pub mod Sums
 pub mod Symmetry
 pub mod Tapes
-pub mod Traces
+pub mod Carrying
 pub mod Unmasking

@@ -9,7 +9,7 @@ use Rattle.mask_circuit.specs.Netlist.{Netlist, IsCircuit, value_count}
 use Rattle.mask_circuit.specs.Wires.{Shares, each}
 use Rattle.mask_circuit.specs.Acceptance.{gate_at, Uses, IsAccepted, IsFenced}
 use Rattle.mask_laws.specs.Clashes.{reach, clash}
-use Rattle.mask_laws.specs.Runs.{Call, Variable, Output, source_at, IsPublic, IsThere, IsStrongRun, run_draws, run_seen, run_hits, run_need}
+use Rattle.mask_laws.specs.Runs.{Call, Variable, Output, origin_at, IsPublic, IsThere, IsStrongRun, run_draws, run_seen, run_hits, run_need}
 use Rattle.mask_laws.proofs.Clashing.{clash_decides}
 use Rattle.mask_circuit.proofs.GateAt.{gate_at_within}
 
@@ -27,10 +27,10 @@ past_gates c v u past h = go (gate_at c v) refl h
 
 -- The first call refreshes variable 0; the second one multiplies that by variable 1 and refreshes the product.
 refreshed : Call
-refreshed = record { circuit = record { inputs = 1; gates = Ref 0 ∷ []; outputs = 1 ∷ [] }; sources = Variable 0 ∷ [] }
+refreshed = record { circuit = record { inputs = 1; gates = Ref 0 ∷ []; outputs = 1 ∷ [] }; origins = Variable 0 ∷ [] }
 
 multiplied : Call
-multiplied = record { circuit = record { inputs = 2; gates = And 0 1 ∷ Ref 2 ∷ []; outputs = 3 ∷ [] }; sources = Output 0 0 ∷ Variable 1 ∷ [] }
+multiplied = record { circuit = record { inputs = 2; gates = And 0 1 ∷ Ref 2 ∷ []; outputs = 3 ∷ [] }; origins = Output 0 0 ∷ Variable 1 ∷ [] }
 
 example : List Call
 example = refreshed ∷ multiplied ∷ []
@@ -58,7 +58,7 @@ example_hits : map (λ bss. run_hits example 2 (listed bss) (10 ∷ []) (true �
 unfolding example refreshed multiplied listed
 example_hits = refl
 
--- The run is a strong one: its circuits are strong, and no call takes a source twice.
+-- The run is a strong one: its circuits are strong, and no call takes an origin twice.
 refreshed_circuit : IsCircuit refreshed.circuit
 unfolding refreshed
 refreshed_circuit = record {
@@ -109,7 +109,7 @@ multiplied_accepted : IsAccepted multiplied.circuit
 unfolding multiplied reach clash
 multiplied_accepted = (clash_decides multiplied.circuit multiplied_circuit).0.0 refl
 
-multiplied_once : (u v : ℕ) → u < v → v < 2 → source_at multiplied u ≡ source_at multiplied v → IsPublic (source_at multiplied u)
+multiplied_once : (u v : ℕ) → u < v → v < 2 → origin_at multiplied u ≡ origin_at multiplied v → IsPublic (origin_at multiplied u)
 unfolding multiplied
 multiplied_once zero zero lt two e = absurd (omega arith)
 multiplied_once zero (suc zero) lt two e = cc
@@ -122,7 +122,7 @@ example_strong = (
   record {
     circuit = refreshed_circuit;
     strong = (refreshed_accepted, refreshed_fenced);
-    sources = refl;
+    origins = refl;
     there = All-cons (IsThere []) (Variable 0) [] tt (All-nil (IsThere []));
     once = λ u v lt one e. absurd (omega arith);
   },
@@ -130,7 +130,7 @@ example_strong = (
     record {
       circuit = multiplied_circuit;
       strong = (multiplied_accepted, multiplied_fenced);
-      sources = refl;
+      origins = refl;
       there = All-cons (IsThere (1 ∷ [])) (Output 0 0) (Variable 1 ∷ []) (omega arith, omega arith)
           (All-cons (IsThere (1 ∷ [])) (Variable 1) [] tt (All-nil (IsThere (1 ∷ []))));
       once = multiplied_once;

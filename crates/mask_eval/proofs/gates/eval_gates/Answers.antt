@@ -6,7 +6,7 @@ use Rattle.mask_circuit.specs.declared.gates.Gate.TheVariants.{Zero}
 use Rattle.mask_circuit.specs.Ring.{words}
 use Rattle.mask_circuit.specs.Wires.{Share, gate_draws}
 use Rattle.mask_circuit.specs.Netlist.{AreGates}
-use Rattle.mask_circuit.specs.Expansion.{Trace, shares_of, start, run}
+use Rattle.mask_circuit.specs.Expansion.{Carried, shares_of, start, run}
 use Rattle.mask_shares.specs.Sharing.{all_listed}
 use Rattle.mask_eval.specs.Frames.{SameShares}
 use Rattle.mask_eval.proofs.Runs.{run-take, next_value}
@@ -22,7 +22,7 @@ loop-k-preserved g c =
     let out = c.gate_shares-shares.result in
     let coins = c.loop-k.coins in
     let after = c.gate_shares-shares.new.coins in
-    let T : Trace ℕ = run words N c.args.gates.now c.args.inputs (start words (all_listed words c.args.values.now)) (drop c.args.coins.now.used c.args.coins.now.words) in
+    let T : Carried ℕ = run words N c.args.gates.now c.args.inputs (start words (all_listed words c.args.values.now)) (drop c.args.coins.now.used c.args.coins.now.words) in
     let lt : c.loop-k.k < length c.args.gates.now = omega arith in
     let more = drop_more c.args.gates.now c.loop-k.k Zero lt in
     let next : c.args.inputs + (c.loop-k.k + 1) ≡ suc (c.args.inputs + c.loop-k.k) = omega arith in
@@ -53,5 +53,5 @@ returns-clause-shares g c u i lu li =
     let none : drop c.loop-k.k c.args.gates.now ≡ [] = drop_all c.loop-k.k c.args.gates.now (omega arith) in
     ap (λ (gs : List Gate). run words g.row.N gs (c.args.inputs + c.loop-k.k) (start words (all_listed words c.loop-k.values)) (drop c.loop-k.coins.used c.loop-k.coins.words) u (Share i)) (sym none)
     ∙ c.loop-k.invariant.shares u i lu li
-    ∙ ap (λ (T : Trace ℕ). T u (Share i))
+    ∙ ap (λ (T : Carried ℕ). T u (Share i))
     (sym (run-take words g.row.N c.args.gates.now c.args.inputs (start words (all_listed words c.args.values.now)) (drop c.args.coins.now.used c.args.coins.now.words)))

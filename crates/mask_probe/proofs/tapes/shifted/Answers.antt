@@ -2,7 +2,7 @@ use Rattle.std.proofs.Common.{◌+◌, ◌≤◌, ℕ, suc, Bool, List, [], ◌�
 use Rattle.mask_circuit.specs.declared.gates.Gate.{Gate}
 use Rattle.mask_circuit.specs.declared.gates.Gate.TheVariants.{Zero}
 use Rattle.mask_circuit.specs.Wires.{each, gate_draws}
-use Rattle.mask_circuit.specs.Expansion.{Place, start}
+use Rattle.mask_circuit.specs.Expansion.{CircuitWire, start}
 use Rattle.mask_circuit.specs.Need.{inner_probes, need_from}
 use Rattle.mask_circuit.specs.Ring.{bits}
 use Rattle.mask_circuit.specs.Shift.{shift_from}
@@ -47,7 +47,7 @@ mask_of-mask-requires-clause-second g c =
 
 pub mask_of-mask-requires-clause-fits : goal.mask_of-mask-requires-clause-fits
 mask_of-mask-requires-clause-fits g c =
-    let P : List Place = places_of c.args.circuit.now g.row.N c.args.placed.now in
+    let P : List CircuitWire = places_of c.args.circuit.now g.row.N c.args.placed.now in
     let h : Gate = get_or c.gates-gate-items.result.now c.loop-gate.gate-index Zero in
     let at = at_gate c.args.circuit.now g.row.N P c.loop-gate.gate-index c.loop-gate.value
     c.gates-gate-items.result.now c.gates-gate-items.ensures.circuit c.requires.fits c.gates-gate-items.ensures.same c.loop-gate.invariant.value (omega arith) in
@@ -75,7 +75,7 @@ shift_gate-requires-clause-tape g c =
 pub loop-gate-preserved : goal.loop-gate-preserved
 loop-gate-preserved g c =
     let N : ℕ = g.row.N in
-    let P : List Place = places_of c.args.circuit.now N c.args.placed.now in
+    let P : List CircuitWire = places_of c.args.circuit.now N c.args.placed.now in
     let k : ℕ = c.loop-gate.gate-index in
     let v : ℕ = c.loop-gate.value in
     let h : Gate = get_or c.gates-gate-items.result.now k Zero in
