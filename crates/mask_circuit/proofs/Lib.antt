@@ -3,5 +3,6 @@ pub mod Examples
 pub mod GateAt
 pub mod Growing
 pub mod Numbering
+pub mod Pairs
 pub mod Places
 pub mod Plain

@@ -3,6 +3,7 @@ pub mod Expansion
 pub mod Labels
 pub mod Need
 pub mod Netlist
+pub mod Pairs
 pub mod Probing
 pub mod Ring
 pub mod Shift

@@ -10,7 +10,7 @@ use Rattle.mask_laws.proofs.LocalNumbers.{product_in_order}
 use Rattle.mask_circuit.proofs.Places.{length-each, length-joined, length-threes}
 use Rattle.mask_gadget.specs.Gadgets.{pair_names, pair_row, cross_place}
 use Rattle.mask_gadget.proofs.Made.{map-each, map-joined, each-same, joined-same, joined-more}
-use Rattle.mask_laws.proofs.PairNumbers.{length-pairs, pair_number-lt}
+use Rattle.mask_circuit.proofs.Pairs.{length-pairs, pair_number-lt}
 use Rattle.mask_gadget.proofs.Pairs.{by_rows}
 use Rattle.mask_gadget.proofs.Rows.{partial, partial-more, row_wire-sum, row_sum-same, other-below}
 

@@ -20,7 +20,6 @@ pub mod Needs
 pub mod Numbering
 pub mod Operands
 pub mod OutputShares
-pub mod PairNumbers
 pub mod Probes
 pub mod Products
 pub mod Reaching

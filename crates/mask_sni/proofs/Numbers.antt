@@ -6,7 +6,7 @@ use Rattle.std.proofs.lemmas.Nat.{div-add-mod'}
 use Rattle.mask_circuit.specs.Wires.{Wire, Share, Product, Fresh, Left, Right, other, row_wire, product_names, refresh_names}
 use Rattle.mask_laws.specs.Names.{IsPair, pairs_before, pair_number, pair_count}
 use Rattle.mask_laws.proofs.LocalNumbers.{product_in_order, refresh_in_order}
-use Rattle.mask_laws.proofs.PairNumbers.{pairs_before-count}
+use Rattle.mask_circuit.proofs.Pairs.{pairs_before-count}
 
 after_row : (n i m : ℕ) → m ≡ suc i → pairs_before n m ≡ pairs_before n i + (n - suc i)
 after_row n i m e = rw e refl

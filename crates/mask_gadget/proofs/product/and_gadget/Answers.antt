@@ -9,7 +9,7 @@ use Rattle.mask_shares.specs.Sharing.{listed}
 use Rattle.mask_shares.proofs.Lists.{is_each}
 use Rattle.mask_gadget.specs.Gadgets.{coins_of, pair_coin}
 use Rattle.mask_gadget.proofs.Made.{map-each}
-use Rattle.mask_laws.proofs.PairNumbers.{length-pairs}
+use Rattle.mask_circuit.proofs.Pairs.{length-pairs}
 use Rattle.mask_gadget.proofs.Products.{front, front_made, rows_more, share_more, all_made}
 use Rattle.mask_gadget.proofs.Lanes.{out_of_words, wires_of_words, length-lane}
 use Rattle.mask_gadget.proofs.Unmasking.{unmasked-and}

@@ -7,7 +7,7 @@ use Rattle.mask_shares.specs.Sharing.{listed}
 use Rattle.mask_shares.proofs.Lists.{is_each}
 use Rattle.mask_gadget.specs.Gadgets.{coins_of, pair_coin, update_row}
 use Rattle.mask_gadget.proofs.Made.{map-each}
-use Rattle.mask_laws.proofs.PairNumbers.{small, length-pairs, pairs_before-all, pairs_before-more}
+use Rattle.mask_circuit.proofs.Pairs.{small, length-pairs, pairs_before-all, pairs_before-more}
 use Rattle.mask_gadget.proofs.Pairs.{row_more, row_within, next_row}
 use Rattle.mask_gadget.proofs.Refreshes.{all_done, all_updates}
 use Rattle.mask_gadget.proofs.Lanes.{out_of_words, wires_of_words, length-lane}

@@ -1,4 +1,4 @@
-use Rattle.mask_laws.proofs.PairNumbers.{pair_number-closed}
+use Rattle.mask_circuit.proofs.Pairs.{pair_number-closed}
 use Rattle.mask_probe.proofs.Masked.{pair_number-within}
 use Rattle.mask_probe.proofs.gadgets.pair_number.Goals as goal
 

@@ -1,5 +1,5 @@
 use Rattle.std.proofs.Common.{inl, inr, sym}
-use Rattle.mask_laws.proofs.PairNumbers.{length-pairs}
+use Rattle.mask_circuit.proofs.Pairs.{length-pairs}
 use Rattle.mask_probe.proofs.shifting.draws_of.Goals as goal
 
 pub returns-in-And-clause-value : goal.returns-in-And-clause-value

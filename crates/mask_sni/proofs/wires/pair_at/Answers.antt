@@ -1,5 +1,5 @@
 use Rattle.std.proofs.Common.{arith}
-use Rattle.mask_laws.proofs.PairNumbers.{pairs_before-more}
+use Rattle.mask_circuit.proofs.Pairs.{pairs_before-more}
 use Rattle.mask_sni.proofs.Numbers.{row_left}
 use Rattle.mask_sni.proofs.wires.pair_at.Goals as goal
 
