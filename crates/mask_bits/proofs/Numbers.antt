@@ -7,7 +7,7 @@ use Rattle.std.proofs.Math.Pow.{pow_mono}
 use Rattle.std.specs.Int.{bit_at}
 use Rattle.std.specs.Prelude.{bit_and}
 use Rattle.std.proofs.lemmas.List.{take_more, length-take-le}
-use Rattle.std.proofs.lemmas.Nat.Bits.{shr_and_one, bit_at-suc, bit_at_lowest, bit_at-lt}
+use Rattle.std.proofs.lemmas.Nat.Bits.{shr_and_one, bit_at-zero, bit_at-suc, bit_at_lowest, bit_at-lt}
 use Rattle.mask_bits.specs.Reading.{bit, lowest, number}
 
 -- how many bits there are
@@ -64,6 +64,12 @@ lowest-number (suc n) (b ∷ bits) fits =
     let left : suc n - suc (length bits) ≡ n - length bits = omega arith in
     rw (lowest-cons n (number (b ∷ bits)), parity b (number bits), half b (number bits), lowest-number n bits shorter, left) refl
 
+-- each bit of the number of bits is that one, and past them there is none
+pub bit-number : (bits : List Bool) (k : ℕ) → bit k (number bits) ≡ get_or bits k false
+bit-number [] k = rw bit_at-zero refl
+bit-number (b ∷ bits) zero = parity b (number bits)
+bit-number (b ∷ bits) (suc k) = rw (bit_at-suc (number (b ∷ bits)) k, half b (number bits)) (bit-number bits k)
+
 -- what the place past one bit more weighs
 power_more : (bits : List Bool) → 2 ^ suc (length bits) ≡ 2 ^ length bits * 2
 power_more bits = pow-suc 2 (length bits)
@@ -78,6 +84,11 @@ number-lt (false ∷ bits) = let h = number-lt bits in rw (power_more bits) (ome
 pub number-append : (xs ys : List Bool) → number (xs ++ ys) ≡ number xs + 2 ^ length xs * number ys
 number-append [] ys = omega arith
 number-append (x ∷ xs) ys = rw (number-append xs ys, power_more xs) (omega arith)
+
+-- a last bit more
+pub number-last : (bits : List Bool) (b : Bool) → number (bits ++ b ∷ []) ≡ number bits + (if b then 2 ^ length bits else 0)
+number-last bits true = number-append bits (true ∷ []) ∙ omega arith
+number-last bits false = number-append bits (false ∷ []) ∙ omega arith
 
 -- one bit more
 pub number-more : (bits : List Bool) (i : ℕ) → i < length bits

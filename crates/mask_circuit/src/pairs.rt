@@ -47,7 +47,8 @@ pub fn pair_at(shares: usize, number: usize) -> (usize, usize)
 /// The partner number m of share i, counted from 0: all shares but i, rising.
 pub fn other(i: usize, m: usize) -> usize
     requires { m < 8 }
-    ensures { result ≡ other i m }
+    ensures partner { result ≡ other i m }
+    ensures most { result ≤ m + 1 }
 {
     if m < i { m } else { m + 1 }
 }
