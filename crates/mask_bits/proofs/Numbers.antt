@@ -1,12 +1,12 @@
 -- The bits of a number, and the number of bits.
-use Rattle.std.proofs.Common.{◌≡◌, ℕ, zero, suc, ◌+◌, ◌-◌, ◌*◌, ◌/◌, ◌%◌, ◌^◌, ◌<◌, ◌≤◌, Bool, true, false, nat_eq, List, [], ◌∷◌, ◌++◌, length, take, get_or, replicate, refl, sym, ap, arith, lit<, append_assoc, length-append, add-one, if◌then◌else◌}
+use Rattle.std.proofs.Common.{◌≡◌, ℕ, zero, suc, ◌+◌, ◌-◌, ◌*◌, ◌/◌, ◌%◌, ◌^◌, ◌<◌, ◌≤◌, Bool, true, false, nat_eq, List, [], ◌∷◌, ◌++◌, length, take, get_or, replicate, refl, sym, ap, ◌∙◌, arith, lit<, append_assoc, length-append, add-one, if◌then◌else◌}
 use Rattle.std.proofs.Math.Nat.{pow-suc, mod-eq_of_lt}
 use Rattle.std.proofs.lemmas.Nat.{pow_pos}
 use Rattle.std.proofs.Math.Arith.{mod-mul}
 use Rattle.std.proofs.Math.Pow.{pow_mono}
 use Rattle.std.specs.Int.{bit_at}
 use Rattle.std.specs.Prelude.{bit_and}
-use Rattle.std.proofs.lemmas.List.{take_more, length-take-le}
+use Rattle.std.proofs.lemmas.List.{append-nil, take_more, length-take-le}
 use Rattle.std.proofs.lemmas.Nat.Bits.{shr_and_one, bit_at-zero, bit_at-suc, bit_at_lowest, bit_at-lt}
 use Rattle.mask_bits.specs.Reading.{bit, lowest, number}
 
@@ -63,6 +63,12 @@ lowest-number (suc n) (b ∷ bits) fits =
     let shorter : length bits ≤ n = omega arith in
     let left : suc n - suc (length bits) ≡ n - length bits = omega arith in
     rw (lowest-cons n (number (b ∷ bits)), parity b (number bits), half b (number bits), lowest-number n bits shorter, left) refl
+
+-- all bits of a number that bits made
+pub lowest-of : (bits : List Bool) (word n : ℕ) → word ≡ number bits → length bits ≡ n → lowest n word ≡ bits
+lowest-of bits word n made long =
+    let none : n - length bits ≡ 0 = omega arith in
+    rw made (lowest-number n bits (omega arith) ∙ rw none (append-nil bits))
 
 -- each bit of the number of bits is that one, and past them there is none
 pub bit-number : (bits : List Bool) (k : ℕ) → bit k (number bits) ≡ get_or bits k false

@@ -3,6 +3,7 @@ use Rattle.std.proofs.Common.{◌≡◌, ℕ, zero, suc, ◌+◌, ◌<◌, false
 use Rattle.std.proofs.Math.Seq.{drop-nil}
 use Rattle.std.proofs.lemmas.Bool.{cases_eq}
 use Rattle.std.proofs.lemmas.Option.{slice_get-get_or}
+use Rattle.mask_bits.proofs.Words.{bit-or}
 use Rattle.mask_circuit.specs.declared.gates.Gate.{Gate}
 use Rattle.mask_circuit.specs.declared.gates.Gate.TheVariants.{Zero, One, Xor, Not, And, Ref}
 use Rattle.mask_circuit.specs.Netlist.{Netlist, AreGates, OperandsBelow, value_count}
@@ -18,7 +19,7 @@ use Rattle.mask_laws.specs.Gadgets.{FitsGate}
 use Rattle.mask_sni.specs.Asked.{AreAsked, bit_shares, in_places, members, wires_at}
 use Rattle.mask_sni.proofs.Members.{length-members, length-wires_at}
 use Rattle.mask_probe.specs.Asking.{has_share}
-use Rattle.mask_probe.proofs.ShareSets.{All-members, bit_shares-or, in_places-members, or_false}
+use Rattle.mask_probe.proofs.ShareSets.{All-members, in_places-members, or_false}
 
 -- a value that gets more shares
 pub has_share-add : (sets : List ℕ) (u shares v i : ℕ) → u < length sets →
@@ -29,7 +30,7 @@ has_share-add sets u shares v i lt = go (cases_eq v u)
     new = bit_or (slice_index sets u) shares
 
     go : (v ≡ u) ⊎ (v ≡ u → ⊥) → has_share (slice_set sets u new) v i ≡ (has_share sets v i || (v == u && bit_shares shares i))
-    go (inl e) = rw e (ap (λ s. bit_shares s i) (get_or-set_same sets u new 0 lt) ∙ bit_shares-or (slice_index sets u) shares i
+    go (inl e) = rw e (ap (λ s. bit_shares s i) (get_or-set_same sets u new 0 lt) ∙ bit-or (slice_index sets u) shares i
         ∙ ap (λ b. has_share sets u i || (b && bit_shares shares i)) (sym (eq-eqb u u refl)))
     go (inr ne) = ap (λ s. bit_shares s i) (get_or-set_other sets u v new 0 ne) ∙ or_false (has_share sets v i)
         ∙ ap (λ b. has_share sets v i || (b && bit_shares shares i)) (sym (ne_eqb v u ne))

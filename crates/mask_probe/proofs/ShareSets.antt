@@ -30,19 +30,6 @@ bit_shares-with set share i lt = go (cases_eq i share)
     go (inl e) = rw e (ap (λ b. b == 1) (bit_at_set_same w8 set share lt) ∙ sym (or_right (bit_shares set share) (share == share) (eq-eqb share share refl)))
     go (inr ne) = rw (ne_eqb share i (λ e. ne (sym e))) (ap (λ b. b == 1) (bit_at_set_other w8 set share lt i ne) ∙ or_false (bit_shares set i))
 
--- the union of two sets
-pub bit_shares-or : (a b i : ℕ) → bit_shares (bit_or a b) i ≡ (bit_shares a i || bit_shares b i)
-bit_shares-or a b i = ap (λ m. m == 1) (bit_at_or a b i) ∙ larger (bit_at a i) (bit_at b i) (bit_at-lt a i) (bit_at-lt b i)
-  where
-    larger : (x y : ℕ) → x < 2 → y < 2 → (max x y == 1) ≡ (x == 1 || y == 1)
-    larger zero zero lx ly = refl
-    larger zero (suc zero) lx ly = refl
-    larger (suc zero) zero lx ly = refl
-    larger (suc zero) (suc zero) lx ly = refl
-    larger (suc (suc x)) y lx ly = absurd (omega arith)
-    larger zero (suc (suc y)) lx ly = absurd (omega arith)
-    larger (suc zero) (suc (suc y)) lx ly = absurd (omega arith)
-
 -- the members of a set are below its bound, and stand for it there
 pub All-members : (n : ℕ) (set : ShareSet) → All (λ i. i < n) (members n set)
 All-members n set = All-filter set (λ i. i < n) (each (λ i. i) n) (All-each (λ i. i < n) (λ i. i) n (λ i lt. lt))

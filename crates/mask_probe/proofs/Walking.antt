@@ -16,9 +16,11 @@ use Rattle.mask_laws.proofs.Operands.{SameShares, gate_share-same, gate_mask-sam
 use Rattle.mask_laws.proofs.Shifts.{mask_at, carried_at}
 use Rattle.mask_laws.proofs.Tapes.{length-add_bits}
 use Rattle.mask_laws.proofs.Carrying.{put-other}
-use Rattle.mask_sni.specs.Asked.{bit_shares, number_of}
+use Rattle.mask_bits.proofs.Numbers.{lowest-of}
+use Rattle.mask_bits.specs.Reading.{lowest, number}
+use Rattle.mask_sni.specs.Asked.{bit_shares}
 use Rattle.mask_probe.specs.Sides.{byte_shares, bits_from}
-use Rattle.mask_probe.proofs.Masked.{length-bits_from, each-number_of}
+use Rattle.mask_probe.proofs.Masked.{length-bits_from}
 
 -- where a walk stands: the gates gs are left, of which the first makes value n; bytes hold the shares of the values before
 -- it on the two sides; new is the new tape so far, and whole what it is to become
@@ -75,8 +77,8 @@ module _ (P : List CircuitWire) (N : ℕ) (g : Gate) (gs : List Gate) (n : ℕ) 
   -- one gate more
   pub walked_more : (new' : List Bool) (a b mask : ℕ) (O : ShareSet) → length one ≡ n → length two ≡ n → OperandsBelow n g →
       length new + gate_draws N g ≤ length tape → ((i : ℕ) → i < N → O i ≡ need_from P gs (suc n) n i) →
-      mask ≡ number_of (gate_mask N g (inner_probes n P) O (byte_shares one) (byte_shares two)) →
-      new' ≡ new ++ add_bits (bits_from tape (length new) (gate_draws N g)) (each (bit_shares mask) (gate_draws N g)) →
+      mask ≡ number (gate_mask N g (inner_probes n P) O (byte_shares one) (byte_shares two)) →
+      new' ≡ new ++ add_bits (bits_from tape (length new) (gate_draws N g)) (lowest (gate_draws N g) mask) →
       ((i : ℕ) → i < N → bit_shares a i ≡ gate_wire bits N g (byte_shares one) (bits_from tape (length new) (gate_draws N g)) (Share i)) →
       ((i : ℕ) → i < N → bit_shares b i ≡ gate_wire bits N g (byte_shares two) (bits_from new' (length new) (gate_draws N g)) (Share i)) →
       Walked P N (g ∷ gs) n one two tape new whole → Walked P N gs (suc n) (one ++ a ∷ []) (two ++ b ∷ []) tape new' whole
@@ -89,8 +91,8 @@ module _ (P : List CircuitWire) (N : ℕ) (g : Gate) (gs : List Gate) (n : ℕ) 
       let m : List Bool = mask_at P N g gs n t t' in
       let same : gate_mask N g (inner_probes n P) O (byte_shares one) (byte_shares two) ≡ m
       = gate_mask-same N n g (inner_probes n P) O O' (byte_shares one) (shares_of t) (byte_shares two) (shares_of t') below outputs before.first before.second in
-      let bits_are : each (bit_shares mask) w ≡ m
-      = each-number_of (gate_mask N g (inner_probes n P) O (byte_shares one) (byte_shares two)) mask w mask_is
+      let bits_are : lowest w mask ≡ m
+      = lowest-of (gate_mask N g (inner_probes n P) O (byte_shares one) (byte_shares two)) mask w mask_is
       (length-gate_mask N g (inner_probes n P) O (byte_shares one) (byte_shares two)) ∙ same in
       let next : new' ≡ new ++ add_bits old m = new_is ∙ ap (λ (l : List Bool). new ++ add_bits old l) bits_are in
       let part : length (add_bits old m) ≡ w = length-add_bits old m ∙ length-bits_from tape (length new) w fits in

@@ -1,6 +1,6 @@
 -- What is asked of probes, why they are refused, and sets of shares as numbers.
-use Rattle.std.specs.Prelude.{ℕ, ◌<◌, ◌≤◌, Bool, ◌==◌, List, length, take, slice_index}
-use Rattle.std.specs.Int.{bit_at}
+use Rattle.std.specs.Prelude.{ℕ, ◌<◌, ◌≤◌, Bool, List, length, take, slice_index}
+use Rattle.mask_bits.specs.Reading.{bit}
 use Rattle.mask_circuit.specs.Netlist.{Netlist}
 use Rattle.mask_circuit.specs.Expansion.{wire_count}
 use Rattle.mask_laws.specs.Circuits.{AreWireNumbers}
@@ -20,4 +20,4 @@ IsProbeRefusal c N P NoMemory = Unit {0}
 
 -- the set of shares of each value as a number whose bit i is share i
 abbrev pub has_share : List ℕ → ℕ → ℕ → Bool
-has_share sets v i = bit_at (slice_index sets v) i == 1
+has_share sets v i = bit i (slice_index sets v)

@@ -1,11 +1,11 @@
 -- The mask of a call keeps what is watched: the law of the gate at the bits of the mask.
 use Rattle.std.proofs.Common.{◌≡◌, ℕ, zero, suc, ◌-◌, ◌<◌, ◌≤◌, ◌==◌, ◌&&◌, inl, inr, Bool, true, false, List, [], ◌∷◌, length, map, get_or, All, Contains, refl, sym, ◌∙◌, subst, arith}
-use Rattle.std.proofs.lemmas.List.{append-nil, length-map}
+use Rattle.std.proofs.lemmas.List.{length-map}
 use Rattle.std.proofs.lemmas.List.Elements.{All-append, All-map, All-weaker, All-contains, All-contains_itself, Contains-get_or}
 use Rattle.std.proofs.lemmas.List.Folds.{list_any_at}
 use Rattle.std.proofs.lemmas.Bool.{and_parts, or_cases, eqb-true, eq-eqb}
 use Rattle.mask_bits.specs.Reading.{lowest, number}
-use Rattle.mask_bits.proofs.Numbers.{lowest-number}
+use Rattle.mask_bits.proofs.Numbers.{lowest-of}
 use Rattle.mask_circuit.specs.declared.gates.Gate.{Gate}
 use Rattle.mask_circuit.specs.declared.gates.Gate.TheVariants.{And, Ref}
 use Rattle.mask_circuit.specs.Ring.{bits}
@@ -19,12 +19,6 @@ use Rattle.mask_laws.proofs.Sets.{size-owned}
 use Rattle.mask_sni.specs.Asked.{AreAsked, bit_shares, in_places, members, operand_shares, wires_at}
 use Rattle.mask_sni.specs.Keeping.{watched, AgreeAt, MaskKeeps}
 use Rattle.mask_sni.proofs.Members.{Contains-members, length-wires_at}
-
--- the bits of a mask are those that made it
-lowest-mask : (bs : List Bool) → lowest (length bs) (number bs) ≡ bs
-lowest-mask bs =
-    let none : length bs - length bs ≡ 0 = omega arith in
-    lowest-number (length bs) bs (omega arith) ∙ rw none (append-nil bs)
 
 -- WHAT IS ASKED IS WHAT THE LAW WANTS
 
@@ -62,7 +56,7 @@ pub mask_keeps : (n : ℕ) (g : Gate) (P O : List ℕ) (s s2 : ℕ → Shares Bo
 mask_keeps n g P O s s2 mask two asked draws masks agree is fresh count =
     let Q = wires_at (gate_names n g) P in
     let M = gate_mask n g Q (in_places O) s s2 in
-    let back : lowest (length (pairs n)) mask ≡ M = rw is (subst (λ (k : ℕ). lowest k (number M) ≡ M) masks (lowest-mask M)) in
+    let back : lowest (length (pairs n)) mask ≡ M = lowest-of M mask (length (pairs n)) is masks in
     let same : Wire → Type 0 = λ w. gate_wire bits n g s fresh w ≡ gate_wire bits n g s2 (add_bits fresh M) w in
     let law : (w : Wire) → IsWatched n Q (in_places O) w → same w =
     gate_keeps n g Q (in_places O) s s2 fresh two (inner n g P O asked) (fits n (gate_names n g) P O asked) agree (count ∙ sym draws) in

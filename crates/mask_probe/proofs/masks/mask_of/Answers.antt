@@ -6,7 +6,8 @@ use Rattle.mask_circuit.specs.Expansion.{names_of}
 use Rattle.mask_circuit.specs.Need.{inner_probes}
 use Rattle.mask_circuit.specs.Shift.{gate_mask}
 use Rattle.mask_laws.specs.Circuits.{FitsAt}
-use Rattle.mask_sni.specs.Asked.{bit_shares, number_of, wires_at}
+use Rattle.mask_bits.specs.Reading.{number}
+use Rattle.mask_sni.specs.Asked.{bit_shares, wires_at}
 use Rattle.mask_probe.specs.Placing.{places_of}
 use Rattle.mask_probe.specs.Sides.{byte_shares}
 use Rattle.mask_probe.proofs.Demanding.{AreAsked-inner}
@@ -43,9 +44,9 @@ returns-in-And g c =
     c.and_shift.ensures.mask
     ∙ product_mask_of N u v (wires_at (product_names N) c.inner_probes-probes.result.items) Q c.places_in-places.result.items (bit_shares c.args.outputs)
     c.as_slice-first.result.now c.as_slice-second.result.now inner c.places_in-places.ensures
-    ∙ ap₂ (λ (f s : List ℕ). number_of (gate_mask N (And u v) Q (bit_shares c.args.outputs) (byte_shares f) (byte_shares s))) c.as_slice-first.ensures.value
+    ∙ ap₂ (λ (f s : List ℕ). number (gate_mask N (And u v) Q (bit_shares c.args.outputs) (byte_shares f) (byte_shares s))) c.as_slice-first.ensures.value
     c.as_slice-second.ensures.value
-    ∙ ap (λ (h : Gate). number_of (gate_mask N h Q (bit_shares c.args.outputs) (byte_shares c.args.shifting.now.first.items) (byte_shares c.args.shifting.now.second.items)))
+    ∙ ap (λ (h : Gate). number (gate_mask N h Q (bit_shares c.args.outputs) (byte_shares c.args.shifting.now.first.items) (byte_shares c.args.shifting.now.second.items)))
     (sym c.in-And.is)
 
 pub returns-in-Ref : goal.returns-in-Ref
@@ -59,7 +60,7 @@ returns-in-Ref g c =
     c.ref_shift.ensures.mask
     ∙ refresh_mask_of N u (wires_at (refresh_names N) c.inner_probes-probes-in-Ref.result.items) Q c.places_in-places.result.items (bit_shares c.args.outputs)
     c.as_slice-first.result.now c.as_slice-second.result.now inner c.places_in-places.ensures
-    ∙ ap₂ (λ (f s : List ℕ). number_of (gate_mask N (Ref u) Q (bit_shares c.args.outputs) (byte_shares f) (byte_shares s))) c.as_slice-first.ensures.value
+    ∙ ap₂ (λ (f s : List ℕ). number (gate_mask N (Ref u) Q (bit_shares c.args.outputs) (byte_shares f) (byte_shares s))) c.as_slice-first.ensures.value
     c.as_slice-second.ensures.value
-    ∙ ap (λ (h : Gate). number_of (gate_mask N h Q (bit_shares c.args.outputs) (byte_shares c.args.shifting.now.first.items) (byte_shares c.args.shifting.now.second.items)))
+    ∙ ap (λ (h : Gate). number (gate_mask N h Q (bit_shares c.args.outputs) (byte_shares c.args.shifting.now.first.items) (byte_shares c.args.shifting.now.second.items)))
     (sym c.in-Ref.is)

@@ -1,4 +1,5 @@
 use Rattle.std.proofs.Common.{◌+◌, ◌≤◌, ℕ, suc, Bool, List, [], ◌∷◌, length, drop, get_or, sym, ap, subst, ◌∙◌, arith, add-one, length-append}
+use Rattle.mask_bits.specs.Reading.{lowest}
 use Rattle.mask_circuit.specs.declared.gates.Gate.{Gate}
 use Rattle.mask_circuit.specs.declared.gates.Gate.TheVariants.{Zero}
 use Rattle.mask_circuit.specs.Wires.{each, gate_draws}
@@ -85,7 +86,7 @@ loop-gate-preserved g c =
     c.gates-gate-items.ensures.same c.loop-gate.invariant.value (omega arith) in
     let fits : length c.loop-gate.shifting.tape + gate_draws N h ≤ length c.args.tape.now = omega (arith, at.draws, c.loop-gate.invariant.used) in
     let done = c.in_ok-shift_gate.ensures in
-    let long = ap length done.masked ∙ length-masked c.args.tape.now c.loop-gate.shifting.tape (each (bit_shares c.mask_of-mask.result) (gate_draws N h)) (length c.loop-gate.shifting.tape) (gate_draws N h) fits in
+    let long = ap length done.masked ∙ length-masked c.args.tape.now c.loop-gate.shifting.tape (lowest (gate_draws N h) c.mask_of-mask.result) (length c.loop-gate.shifting.tape) (gate_draws N h) fits in
     record {
       value = omega (arith, c.loop-gate.invariant.value);
       first = ap length done.first ∙ omega (arith, length-append c.loop-gate.shifting.first.items (done.one ∷ []), c.loop-gate.invariant.first);
