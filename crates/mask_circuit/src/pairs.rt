@@ -23,6 +23,7 @@ pub fn pair_number(shares: usize, i: usize, j: usize) -> usize
     ensures place { slice_get (pairs shares) result ≡ Some (i, j) }
     ensures value { result ≡ pair_number shares i j }
     ensures below { result < pair_count shares }
+    ensures listed { result < length (pairs shares) }
 {
     i * (2 * shares - i - 1) / 2 + (j - i - 1)
 }

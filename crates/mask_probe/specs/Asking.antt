@@ -1,5 +1,5 @@
 -- What is asked of probes, why they are refused, and sets of shares as numbers.
-use Rattle.std.specs.Prelude.{ℕ, ◌<◌, ◌≤◌, Bool, List, length, take, slice_index}
+use Rattle.std.specs.Prelude.{◌≡◌, ℕ, ◌<◌, ◌≤◌, Bool, false, List, length, take, slice_index}
 use Rattle.mask_bits.specs.Reading.{bit}
 use Rattle.mask_circuit.specs.Netlist.{Netlist}
 use Rattle.mask_circuit.specs.Expansion.{wire_count}
@@ -21,3 +21,7 @@ IsProbeRefusal c N P NoMemory = Unit {0}
 -- the set of shares of each value as a number whose bit i is share i
 abbrev pub has_share : List ℕ → ℕ → ℕ → Bool
 has_share sets v i = bit i (slice_index sets v)
+
+-- a set has shares below N alone
+abbrev pub IsWithin : ℕ → ℕ → Type 0
+IsWithin N set = (i : ℕ) → N ≤ i → bit i set ≡ false

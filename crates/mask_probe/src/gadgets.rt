@@ -4,13 +4,12 @@ ghost use Rattle.std.specs.Prelude.{◌≡◌, ◌≢◌, ◌+◌, ◌<◌, ◌�
 ghost use Rattle.mask_circuit.specs.Netlist.{OperandsBelow};
 ghost use Rattle.mask_circuit.specs.Ring.{bits};
 ghost use Rattle.mask_circuit.specs.Wires.{Share, pairs, fresh_between, cross, product_wire, refresh_wire, gate_draws, gate_wire};
-ghost use Rattle.mask_laws.specs.Names.{pair_number};
 ghost use Rattle.mask_sni.specs.Asked.{bit_shares};
 ghost use Rattle.mask_probe.specs.Sides.{byte_shares, bits_from, fresh_from, IsOutput};
 
 use crate::sides::{append_share, bit_of};
 use mask_bits::Bits;
-use mask_circuit::Gate;
+use mask_circuit::{Gate, pair_number};
 
 /// The output shares of a gate, where `shares` has those of all earlier values and the gate's fresh bits stand in the tape
 /// from `start` on.
@@ -155,19 +154,8 @@ fn fresh_bit<const N: usize>(tape: &Bits, start: usize, i: usize, k: usize) -> b
 {
     prove!(start <= tape.len());
     if i < k {
-        tape.get(start + pair_number::<N>(i, k))
+        tape.get(start + pair_number(N, i, k))
     } else {
-        tape.get(start + pair_number::<N>(k, i))
+        tape.get(start + pair_number(N, k, i))
     }
-}
-
-// The number of the pair of shares i and j, where the pairs stand row by row.
-fn pair_number<const N: usize>(i: usize, j: usize) -> usize
-    requires few { N ≤ 8 }
-    requires order { i < j }
-    requires bound { j < N }
-    ensures value { result ≡ pair_number N i j }
-    ensures bound { result < length (pairs N) }
-{
-    i * (2 * N - i - 1) / 2 + (j - i - 1)
 }

@@ -13,7 +13,7 @@ ghost use Rattle.mask_probe.specs.Sides.{byte_shares};
 
 use crate::inner::inner_probes;
 use crate::places::Placed;
-use crate::sets::places_in;
+use crate::sets::ShareSet;
 use crate::shifting::Shifting;
 use mask_circuit::{Circuit, Gate};
 use mask_sni::{and_shift, ref_shift};
@@ -23,7 +23,7 @@ use mask_sni::{and_shift, ref_shift};
 pub(crate) fn mask_of<const N: usize>(
     circuit: &Circuit,
     placed: &[Placed],
-    outputs: u8,
+    outputs: ShareSet,
     value: u32,
     gate: Gate,
     shifting: &Shifting,
@@ -41,7 +41,7 @@ pub(crate) fn mask_of<const N: usize>(
         ≡ number (gate_mask N gate (inner_probes value (places_of circuit.now N placed.now)) (bit_shares outputs)
         (byte_shares shifting.now.first.items) (byte_shares shifting.now.second.items)) }
 {
-    let places = places_in::<N>(outputs);
+    let places = outputs.places::<N>();
     let first = shifting.first.as_slice();
     let second = shifting.second.as_slice();
     match gate {

@@ -1,4 +1,4 @@
-use Rattle.mask_circuit.proofs.Pairs.{pair_number-closed, pair_number-lt, slice_get-pairs}
+use Rattle.mask_circuit.proofs.Pairs.{length-pairs, pair_number-closed, pair_number-lt, slice_get-pairs}
 use Rattle.mask_circuit.proofs.pairs.pair_number.Goals as goal
 
 pub returns-clause-value : goal.returns-clause-value
@@ -11,3 +11,6 @@ returns-clause-place c =
 pub returns-clause-below : goal.returns-clause-below
 returns-clause-below c =
     rw (returns-clause-value c) (pair_number-lt c.args.shares c.args.i c.args.j c.requires.order c.requires.bound)
+
+pub returns-clause-listed : goal.returns-clause-listed
+returns-clause-listed c = rw (length-pairs c.args.shares) (returns-clause-below c)
