@@ -3,7 +3,6 @@ use Rattle.std.proofs.Common.{◌≡◌, ℕ, zero, suc, ◌+◌, ◌<◌, false
 use Rattle.std.proofs.Math.Seq.{drop-nil}
 use Rattle.std.proofs.lemmas.Bool.{cases_eq}
 use Rattle.std.proofs.lemmas.Option.{slice_get-get_or}
-use Rattle.mask_bits.proofs.Words.{bit-or}
 use Rattle.mask_circuit.specs.declared.gates.Gate.{Gate}
 use Rattle.mask_circuit.specs.declared.gates.Gate.TheVariants.{Zero, One, Xor, Not, And, Ref}
 use Rattle.mask_circuit.specs.Netlist.{Netlist, AreGates, OperandsBelow, value_count}
@@ -18,19 +17,16 @@ use Rattle.mask_laws.proofs.Sets.{size-mono}
 use Rattle.mask_laws.specs.Gadgets.{FitsGate}
 use Rattle.mask_sni.specs.Asked.{AreAsked, bit_shares, in_places, members, wires_at}
 use Rattle.mask_sni.proofs.Members.{length-members, length-wires_at}
-use Rattle.mask_probe.specs.Asking.{has_share}
+use Rattle.mask_probe.specs.Asking.{IsWithin, has_share}
 use Rattle.mask_probe.proofs.ShareSets.{All-members, in_places-members, or_false}
 
 -- a value that gets more shares
-pub has_share-add : (sets : List ℕ) (u shares v i : ℕ) → u < length sets →
-    has_share (slice_set sets u (bit_or (slice_index sets u) shares)) v i ≡ (has_share sets v i || (v == u && bit_shares shares i))
-has_share-add sets u shares v i lt = go (cases_eq v u)
+pub has_share-add : (sets : List ℕ) (u new shares v i : ℕ) → u < length sets → bit_shares new i ≡ (bit_shares (slice_index sets u) i || bit_shares shares i) →
+    has_share (slice_set sets u new) v i ≡ (has_share sets v i || (v == u && bit_shares shares i))
+has_share-add sets u new shares v i lt is = go (cases_eq v u)
   where
-    new : ℕ
-    new = bit_or (slice_index sets u) shares
-
     go : (v ≡ u) ⊎ (v ≡ u → ⊥) → has_share (slice_set sets u new) v i ≡ (has_share sets v i || (v == u && bit_shares shares i))
-    go (inl e) = rw e (ap (λ s. bit_shares s i) (get_or-set_same sets u new 0 lt) ∙ bit-or (slice_index sets u) shares i
+    go (inl e) = rw e (ap (λ s. bit_shares s i) (get_or-set_same sets u new 0 lt) ∙ is
         ∙ ap (λ b. has_share sets u i || (b && bit_shares shares i)) (sym (eq-eqb u u refl)))
     go (inr ne) = ap (λ s. bit_shares s i) (get_or-set_other sets u v new 0 ne) ∙ or_false (has_share sets v i)
         ∙ ap (λ b. has_share sets v i || (b && bit_shares shares i)) (sym (ne_eqb v u ne))
@@ -64,6 +60,7 @@ FitsFrom-drop N P (g ∷ gs) n (suc k) fits =
 pub record AreDemanded (c : Netlist) (N : ℕ) (P : List CircuitWire) (k : ℕ) (sets : List ℕ) : Type 0 where
   pub count : length sets ≡ value_count c
   pub shares : (v i : ℕ) → v < value_count c → i < N → has_share sets v i ≡ need_from P (drop k c.gates) (c.inputs + k) v i
+  pub within : All (IsWithin N) sets
 
 -- the same with the first of these gates apart
 past : (c : Netlist) (P : List CircuitWire) (k v i : ℕ) → need_from P (drop (suc k) c.gates) (c.inputs + suc k) v i ≡ need_from P (drop (suc k) c.gates) (suc (c.inputs + k)) v i
@@ -89,14 +86,15 @@ demanded_fits c N P k sets are accepted few lt so_far =
 -- and what it demands comes to it
 pub demanded_next : (c : Netlist) (N : ℕ) (P : List CircuitWire) (k : ℕ) (sets new : List ℕ) → k < length c.gates → AreDemanded c N P (suc k) sets → length new ≡ length sets →
     ((v i : ℕ) → i < N → has_share new v i ≡ (has_share sets v i || demand (gate_of c k) (inner_probes (c.inputs + k) P) (has_share sets (c.inputs + k)) v i)) →
-    AreDemanded c N P k new
-demanded_next c N P k sets new lt so_far same passed = record {
+    (All (IsWithin N) sets → All (IsWithin N) new) → AreDemanded c N P k new
+demanded_next c N P k sets new lt so_far same passed kept = record {
   count = same ∙ so_far.count;
   shares = λ v i known below. passed v i below
       ∙ ap₂ (λ a b. a || b) (so_far.shares v i known below ∙ past c P k v i)
       (demand-same (gate_of c k) (inner_probes (c.inputs + k) P) (has_share sets (c.inputs + k)) (need_from P (drop (suc k) c.gates) (suc (c.inputs + k)) (c.inputs + k)) v i
       (so_far.shares (c.inputs + k) i (omega arith) below ∙ past c P k (c.inputs + k) i))
       ∙ ap (λ gs. need_from P gs (c.inputs + k) v i) (sym (drop-cons c.gates k Zero lt));
+  within = kept so_far.within;
 }
 
 -- ONE GATE
