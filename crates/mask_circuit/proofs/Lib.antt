@@ -3,6 +3,6 @@ pub mod Examples
 pub mod GateAt
 pub mod Growing
 pub mod Numbering
-pub mod Pairs
+pub mod PairNumbers
 pub mod Places
 pub mod Plain

@@ -10,7 +10,9 @@ use Rattle.std.proofs.lemmas.Option.{slice_get-map, slice_get-get_or}
 use Rattle.mask_circuit.specs.declared.gates.Gate.{Gate}
 use Rattle.mask_circuit.specs.declared.gates.Gate.TheVariants.{Zero, One, Xor, Not, And, Ref}
 use Rattle.mask_circuit.specs.Netlist.{Netlist, value_count}
-use Rattle.mask_circuit.specs.Wires.{Wire, Share, each, joined, share_names, gate_names, product_names, refresh_names}
+use Rattle.mask_circuit.specs.declared.gates.Wire.{Wire}
+use Rattle.mask_circuit.specs.declared.gates.Wire.TheVariants.{Share}
+use Rattle.mask_circuit.specs.Wires.{each, joined, share_names, gate_names, product_names, refresh_names}
 use Rattle.mask_circuit.specs.Acceptance.{gate_at}
 use Rattle.mask_circuit.specs.Expansion.{CircuitWire, names, names_from, names_by, names_of, wires_before, wire_count}
 use Rattle.mask_circuit.proofs.GateAt.{AreGatesAt, AreGatesAt-all, gate_at_input}

@@ -4,7 +4,9 @@ use Rattle.std.specs.declared.option.Option.{Option}
 use Rattle.mask_circuit.specs.declared.gates.Gate.{Gate}
 use Rattle.mask_circuit.specs.Netlist.{Netlist}
 use Rattle.mask_circuit.specs.Ring.{Ring}
-use Rattle.mask_circuit.specs.Wires.{Wire, Share, Shares, each, joined, share_names, gate_names, gate_draws, gate_wire, share_wire}
+use Rattle.mask_circuit.specs.declared.gates.Wire.{Wire}
+use Rattle.mask_circuit.specs.declared.gates.Wire.TheVariants.{Share}
+use Rattle.mask_circuit.specs.Wires.{Shares, each, joined, share_names, gate_names, gate_draws, gate_wire, share_wire}
 use Rattle.mask_circuit.specs.Acceptance.{gate_at}
 
 -- What the wires of each value carry, by value number and name.

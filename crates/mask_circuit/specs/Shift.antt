@@ -7,7 +7,9 @@ use Rattle.mask_circuit.specs.declared.gates.Gate.TheVariants.{Zero, One, Xor, N
 use Rattle.mask_circuit.specs.Netlist.{Netlist}
 use Rattle.mask_circuit.specs.Value.{xor}
 use Rattle.mask_circuit.specs.Ring.{bits}
-use Rattle.mask_circuit.specs.Wires.{Wire, Fresh, Left, Shares, pairs, row_sum, gate_draws, gate_wire}
+use Rattle.mask_circuit.specs.declared.gates.Wire.{Wire}
+use Rattle.mask_circuit.specs.declared.gates.Wire.TheVariants.{Fresh, Left}
+use Rattle.mask_circuit.specs.Wires.{Shares, pairs, row_sum, gate_draws, gate_wire}
 use Rattle.mask_circuit.specs.Expansion.{CircuitWire, Carried, shares_of, put, start}
 use Rattle.mask_circuit.specs.Probing.{same_wire}
 use Rattle.mask_circuit.specs.Need.{ShareSet, inner_probes, product_rows, refresh_need, need_from, probes_at}

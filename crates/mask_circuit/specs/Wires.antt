@@ -7,9 +7,8 @@ use Rattle.std.specs.List.{flat_map}
 use Rattle.mask_circuit.specs.declared.gates.Gate.{Gate}
 use Rattle.mask_circuit.specs.declared.gates.Gate.TheVariants.{Zero, One, Xor, Not, And, Ref}
 use Rattle.mask_circuit.specs.Ring.{Ring}
--- a wire of a gate, named by what it carries
-pub use Rattle.mask_circuit.specs.declared.gates.Wire.{Wire}
-pub use Rattle.mask_circuit.specs.declared.gates.Wire.TheVariants.{Share, Product, Fresh, Left, Right, Partial}
+use Rattle.mask_circuit.specs.declared.gates.Wire.{Wire}
+use Rattle.mask_circuit.specs.declared.gates.Wire.TheVariants.{Share, Product, Fresh, Left, Right, Partial}
 
 -- f 0, f 1, .., f (n - 1)
 abbrev pub each : {A : Type 0} → (ℕ → A) → ℕ → List A

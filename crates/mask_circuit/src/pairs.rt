@@ -1,6 +1,6 @@
 //! The pairs of shares of a value, by number. A product and a refresh draw a fresh bit for each of them.
 
-ghost use Rattle.std.specs.Prelude.{◌≡◌, ◌<◌, ◌≤◌, Some, length, slice_get};
+ghost use Rattle.std.specs.Prelude.{◌≡◌, ◌+◌, ◌<◌, ◌≤◌, Some, length, slice_get};
 ghost use Rattle.mask_circuit.specs.Wires.{pairs, other};
 ghost use Rattle.mask_circuit.specs.Pairs.{IsPair, pair_number, pair_count};
 

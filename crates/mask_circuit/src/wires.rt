@@ -2,7 +2,8 @@
 
 ghost use Rattle.std.specs.Prelude.{◌≡◌, ◌+◌, ◌<◌, ◌≤◌, Some, length, slice_get, slice_index_or};
 ghost use Rattle.mask_circuit.specs.Netlist.{value_count};
-ghost use Rattle.mask_circuit.specs.Wires.{Share, gate_names};
+ghost use Rattle.mask_circuit.specs.declared.gates.Wire.TheVariants.{Share};
+ghost use Rattle.mask_circuit.specs.Wires.{gate_names};
 ghost use Rattle.mask_circuit.specs.Expansion.{names, names_of, wires_before, wire_count};
 
 use crate::circuits::Circuit;

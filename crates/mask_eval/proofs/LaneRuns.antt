@@ -10,7 +10,9 @@ use Rattle.mask_circuit.specs.declared.gates.Gate.TheVariants.{Zero, One, Xor, N
 use Rattle.mask_circuit.specs.Netlist.{Netlist, IsCircuit, value_count}
 use Rattle.mask_circuit.specs.Value.{xor, plain}
 use Rattle.mask_circuit.specs.Ring.{Ring, bits, words}
-use Rattle.mask_circuit.specs.Wires.{Wire, Share, Product, Fresh, Left, Right, Partial, Shares, each, gate_draws, gate_wire}
+use Rattle.mask_circuit.specs.declared.gates.Wire.{Wire}
+use Rattle.mask_circuit.specs.declared.gates.Wire.TheVariants.{Share, Product, Fresh, Left, Right, Partial}
+use Rattle.mask_circuit.specs.Wires.{Shares, each, gate_draws, gate_wire}
 use Rattle.mask_circuit.specs.Expansion.{Carried, shares_of, put, start, run, expand, draws, outs}
 use Rattle.mask_laws.specs.Sharing.{xor_all, unshared}
 use Rattle.mask_laws.proofs.Bits.{xor-false, xor_assoc}

@@ -8,7 +8,9 @@ use Rattle.mask_circuit.specs.declared.gates.Gate.{Gate}
 use Rattle.mask_circuit.specs.declared.gates.Gate.TheVariants.{Zero, One, Xor, Not, And, Ref}
 use Rattle.mask_circuit.specs.Netlist.{OperandsBelow, AreGates}
 use Rattle.mask_circuit.specs.Ring.{Ring}
-use Rattle.mask_circuit.specs.Wires.{Wire, Share, Shares, pairs, fresh_of, cross, fresh_between, gate_draws, gate_wire, gate_out}
+use Rattle.mask_circuit.specs.declared.gates.Wire.{Wire}
+use Rattle.mask_circuit.specs.declared.gates.Wire.TheVariants.{Share}
+use Rattle.mask_circuit.specs.Wires.{Shares, pairs, fresh_of, cross, fresh_between, gate_draws, gate_wire, gate_out}
 use Rattle.mask_circuit.specs.Expansion.{Carried, shares_of, put, start, run}
 use Rattle.mask_laws.proofs.Carrying.{put-same, put-other}
 use Rattle.mask_shares.specs.Sharing.{listed, all_listed}

@@ -9,7 +9,7 @@ use Rattle.mask_circuit.proofs.Places.{below_cases}
 use Rattle.mask_gadget.specs.Gadgets.{IsAtRow, coins_of, pair_coin, pair_names, pair_row}
 use Rattle.mask_laws.proofs.Lookup.{fresh_of-at}
 use Rattle.mask_gadget.proofs.Made.{flat_map-each, flat_map-joined, joined-same, joined-more}
-use Rattle.mask_circuit.proofs.Pairs.{length-pairs, pair_number-lt, pairs_before-all, pairs_before-more}
+use Rattle.mask_circuit.proofs.PairNumbers.{length-pairs, pair_number-lt, pairs_before-all, pairs_before-more}
 
 -- the coin of a pair
 pub coin_at : (coins : Drawn) (n i j : ℕ) → i < j → j < n →

@@ -4,13 +4,15 @@ use Rattle.std.proofs.lemmas.Bool.{cases_lt, lt-ltb, le-ltb}
 use Rattle.std.proofs.lemmas.List.{get_or_append_left, map-append}
 use Rattle.std.proofs.Math.Nat.{mul-le-mul_right}
 use Rattle.mask_circuit.specs.Ring.{words}
-use Rattle.mask_circuit.specs.Wires.{Wire, Share, Product, Fresh, Right, Pair, Shares, each, joined, pairs, other, row_wire, row_sum, cross, product_wire, product_names}
+use Rattle.mask_circuit.specs.declared.gates.Wire.{Wire}
+use Rattle.mask_circuit.specs.declared.gates.Wire.TheVariants.{Share, Product, Fresh, Right}
+use Rattle.mask_circuit.specs.Wires.{Pair, Shares, each, joined, pairs, other, row_wire, row_sum, cross, product_wire, product_names}
 use Rattle.mask_laws.specs.Names.{pair_number, pair_count}
 use Rattle.mask_laws.proofs.LocalNumbers.{product_in_order}
 use Rattle.mask_circuit.proofs.Places.{length-each, length-joined, length-threes}
 use Rattle.mask_gadget.specs.Gadgets.{pair_names, pair_row, cross_place}
 use Rattle.mask_gadget.proofs.Made.{map-each, map-joined, each-same, joined-same, joined-more}
-use Rattle.mask_circuit.proofs.Pairs.{length-pairs, pair_number-lt}
+use Rattle.mask_circuit.proofs.PairNumbers.{length-pairs, pair_number-lt}
 use Rattle.mask_gadget.proofs.Pairs.{by_rows}
 use Rattle.mask_gadget.proofs.Rows.{partial, partial-more, row_wire-sum, row_sum-same, other-below}
 

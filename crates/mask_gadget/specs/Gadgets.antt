@@ -1,7 +1,9 @@
 -- The coins of a gadget; and, for the steps of its body, the parts of its wires and how far it has come.
 use Rattle.std.specs.Prelude.{◌≡◌, ℕ, zero, suc, ◌+◌, ◌*◌, ◌<◌, ◌≤◌, cond, nat_lt, List, [], ◌∷◌, length, slice_index}
 use Rattle.mask_circuit.specs.Ring.{Ring, words}
-use Rattle.mask_circuit.specs.Wires.{Wire, Fresh, Left, Right, Shares, joined, pairs, row_wire, row_sum, fresh_of, fresh_between}
+use Rattle.mask_circuit.specs.declared.gates.Wire.{Wire}
+use Rattle.mask_circuit.specs.declared.gates.Wire.TheVariants.{Fresh, Left, Right}
+use Rattle.mask_circuit.specs.Wires.{Shares, joined, pairs, row_wire, row_sum, fresh_of, fresh_between}
 use Rattle.mask_laws.specs.Names.{pairs_before, pair_number}
 use Rattle.mask_tape.specs.Drawn.{Drawn, ahead}
 

@@ -156,7 +156,7 @@ fn other(i: usize, m: usize) -> usize
 }
 
 // Where r_ik stands among the wires: as the coin of its pair, or as the last wire of it.
-#[tactic(auto, using(mask_circuit::proofs::Pairs::small))]
+#[tactic(auto, using(mask_circuit::proofs::PairNumbers::small))]
 fn cross_place<const N: usize>(i: usize, k: usize) -> usize
     requires few { N ≤ 8 }
     requires row { i < N }

@@ -9,7 +9,8 @@ use Rattle.std.proofs.lemmas.List.Folds.{list_any-append}
 use Rattle.mask_circuit.specs.declared.gates.Gate.{Gate}
 use Rattle.mask_circuit.specs.declared.gates.Gate.TheVariants.{Zero, One, Xor, Not, And, Ref}
 use Rattle.mask_circuit.specs.Netlist.{OperandsBelow}
-use Rattle.mask_circuit.specs.Wires.{Wire, Share}
+use Rattle.mask_circuit.specs.declared.gates.Wire.{Wire}
+use Rattle.mask_circuit.specs.declared.gates.Wire.TheVariants.{Share}
 use Rattle.mask_circuit.specs.Expansion.{CircuitWire}
 use Rattle.mask_circuit.specs.Probing.{ShareSets, same_wire}
 use Rattle.mask_circuit.specs.Need.{ShareSet, inner_probes, probed_shares, is_of_row, product_rows, demands_left, demands_right, left_need, is_update_of, refresh_need, demand, need_from}

@@ -5,7 +5,8 @@ use Rattle.std.proofs.lemmas.Bool.{and_parts, and_right, not-true, cases_lt, fal
 use Rattle.mask_circuit.specs.declared.gates.Gate.{Gate}
 use Rattle.mask_circuit.specs.declared.gates.Gate.TheVariants.{Zero, One, Xor, Not, And, Ref}
 use Rattle.mask_circuit.specs.Netlist.{Netlist, AreGates}
-use Rattle.mask_circuit.specs.Wires.{Wire, Share}
+use Rattle.mask_circuit.specs.declared.gates.Wire.{Wire}
+use Rattle.mask_circuit.specs.declared.gates.Wire.TheVariants.{Share}
 use Rattle.mask_circuit.specs.Expansion.{CircuitWire}
 use Rattle.mask_circuit.specs.Probing.{size, same_wire}
 use Rattle.mask_circuit.specs.Need.{ShareSet, is_share, inner_probes, need_from}

@@ -7,7 +7,9 @@ use Rattle.mask_circuit.specs.declared.gates.Gate.TheVariants.{Zero, One, Xor, N
 use Rattle.mask_circuit.specs.Netlist.{OperandsBelow, AreGates}
 use Rattle.mask_circuit.specs.Value.{xor}
 use Rattle.mask_circuit.specs.Ring.{bits}
-use Rattle.mask_circuit.specs.Wires.{Wire, Share, Shares, gate_names, gate_draws, gate_wire}
+use Rattle.mask_circuit.specs.declared.gates.Wire.{Wire}
+use Rattle.mask_circuit.specs.declared.gates.Wire.TheVariants.{Share}
+use Rattle.mask_circuit.specs.Wires.{Shares, gate_names, gate_draws, gate_wire}
 use Rattle.mask_circuit.specs.Expansion.{CircuitWire, Carried, shares_of, run}
 use Rattle.mask_circuit.specs.Need.{ShareSet, is_share, inner_probes, product_rows, demand, need_from}
 use Rattle.mask_circuit.specs.Shift.{add_bits, gate_mask, shift_from}

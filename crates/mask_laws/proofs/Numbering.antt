@@ -5,7 +5,9 @@ use Rattle.std.proofs.lemmas.Bool.{eq-eqb, eqb-true, and_parts, and_from, trueâ‰
 use Rattle.std.proofs.lemmas.Option.{none-some, same_Some, slice_get-get_or}
 use Rattle.mask_circuit.specs.declared.gates.Gate.{Gate}
 use Rattle.mask_circuit.specs.declared.gates.Gate.TheVariants.{Zero, One, Xor, Not, And, Ref}
-use Rattle.mask_circuit.specs.Wires.{Wire, Share, Product, Fresh, Left, Right, Partial, gate_names}
+use Rattle.mask_circuit.specs.declared.gates.Wire.{Wire}
+use Rattle.mask_circuit.specs.declared.gates.Wire.TheVariants.{Share, Product, Fresh, Left, Right, Partial}
+use Rattle.mask_circuit.specs.Wires.{gate_names}
 use Rattle.mask_circuit.specs.Expansion.{CircuitWire, names, names_by, names_of, wires_before}
 use Rattle.mask_circuit.specs.Probing.{same_wire, places_before}
 use Rattle.mask_circuit.specs.Acceptance.{gate_at}

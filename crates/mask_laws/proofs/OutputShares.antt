@@ -7,7 +7,8 @@ use Rattle.std.proofs.lemmas.List.Elements.{filter-append, All-head, All-tail, A
 use Rattle.std.proofs.lemmas.List.Folds.{list_any-append}
 use Rattle.std.proofs.lemmas.Option.{get_or_from_slice_get, slice_get_within}
 use Rattle.mask_circuit.specs.Netlist.{Netlist, value_count}
-use Rattle.mask_circuit.specs.Wires.{Share, each}
+use Rattle.mask_circuit.specs.declared.gates.Wire.TheVariants.{Share}
+use Rattle.mask_circuit.specs.Wires.{each}
 use Rattle.mask_circuit.specs.Expansion.{CircuitWire, names, wire_count}
 use Rattle.mask_circuit.specs.Probing.{share_place, output_places}
 use Rattle.mask_circuit.specs.Need.{inner_probes, probed_shares, probes_at}

@@ -7,7 +7,8 @@ use Rattle.std.proofs.lemmas.List.Elements.{All-get_or, Contains-append_left, Co
 use Rattle.std.proofs.lemmas.List.Sums.{sum_by-cons}
 use Rattle.mask_circuit.specs.Netlist.{Netlist}
 use Rattle.mask_circuit.specs.Ring.{bits}
-use Rattle.mask_circuit.specs.Wires.{Share, Shares}
+use Rattle.mask_circuit.specs.declared.gates.Wire.TheVariants.{Share}
+use Rattle.mask_circuit.specs.Wires.{Shares}
 use Rattle.mask_circuit.specs.Expansion.{CircuitWire, shares_of, expand, names, wire_count, wires}
 use Rattle.mask_circuit.specs.Probing.{same_bits, sum_over_tapes, AgreeOn, output_places}
 use Rattle.mask_circuit.specs.Need.{need, probes_at}

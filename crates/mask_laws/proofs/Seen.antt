@@ -4,7 +4,9 @@ use Rattle.std.proofs.lemmas.List.Elements.{All-head, All-tail, All-contains, Co
 use Rattle.std.proofs.lemmas.Bool.{false≢true}
 use Rattle.mask_circuit.specs.Netlist.{Netlist, AreGates, value_count}
 use Rattle.mask_circuit.specs.Ring.{bits}
-use Rattle.mask_circuit.specs.Wires.{Wire, Share, Shares}
+use Rattle.mask_circuit.specs.declared.gates.Wire.{Wire}
+use Rattle.mask_circuit.specs.declared.gates.Wire.TheVariants.{Share}
+use Rattle.mask_circuit.specs.Wires.{Shares}
 use Rattle.mask_circuit.specs.Expansion.{CircuitWire, Carried, start, expand, draws, names, wire_count}
 use Rattle.mask_circuit.specs.Probing.{seen, sum_over_tapes, same_bits, AgreeOn}
 use Rattle.mask_circuit.specs.Need.{is_share, need_from, probes_at}

@@ -8,7 +8,8 @@ use Rattle.std.proofs.lemmas.Option.{none-some, same_Some}
 use Rattle.mask_circuit.specs.declared.gates.Gate.{Gate}
 use Rattle.mask_circuit.specs.declared.gates.Gate.TheVariants.{Zero, One, Xor, Not, And, Ref}
 use Rattle.mask_circuit.specs.Netlist.{Netlist, IsCircuit, AreGates}
-use Rattle.mask_circuit.specs.Wires.{Wire, Share}
+use Rattle.mask_circuit.specs.declared.gates.Wire.{Wire}
+use Rattle.mask_circuit.specs.declared.gates.Wire.TheVariants.{Share}
 use Rattle.mask_circuit.specs.Expansion.{CircuitWire, names, wire_count}
 use Rattle.mask_circuit.specs.Probing.{same_wire, size, HasAtMost, IsInner, output_places}
 use Rattle.mask_circuit.specs.Need.{ShareSet, inner_probes, probed_shares, demand, need_from, need, probes_at}

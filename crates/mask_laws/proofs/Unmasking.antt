@@ -8,7 +8,9 @@ use Rattle.mask_circuit.specs.declared.gates.Gate.TheVariants.{Zero, One, Xor, N
 use Rattle.mask_circuit.specs.Netlist.{AreGates, OperandsBelow, value_count}
 use Rattle.mask_circuit.specs.Value.{xor, value_at, gate_value, values_from, plain_values}
 use Rattle.mask_circuit.specs.Ring.{bits}
-use Rattle.mask_circuit.specs.Wires.{Wire, Share, Shares, each, pairs, fresh_of, cross, product_wire, fresh_between, refresh_wire, gate_draws, gate_wire}
+use Rattle.mask_circuit.specs.declared.gates.Wire.{Wire}
+use Rattle.mask_circuit.specs.declared.gates.Wire.TheVariants.{Share}
+use Rattle.mask_circuit.specs.Wires.{Shares, each, pairs, fresh_of, cross, product_wire, fresh_between, refresh_wire, gate_draws, gate_wire}
 use Rattle.mask_circuit.specs.Expansion.{Carried, shares_of, put, start, run, expand}
 use Rattle.mask_laws.specs.Sharing.{xor_all, unshared_inputs, ValuesUnmask, OutputsUnmask}
 use Rattle.mask_laws.proofs.Bits.{xor-false, xor_self, xor_comm}

@@ -5,7 +5,9 @@ use Rattle.mask_circuit.specs.declared.gates.Gate.{Gate}
 use Rattle.mask_circuit.specs.declared.gates.Gate.TheVariants.{Zero, One, Xor, Not, And, Ref}
 use Rattle.mask_circuit.specs.Netlist.{Netlist, AreGates, value_count}
 use Rattle.mask_circuit.specs.Ring.{bits}
-use Rattle.mask_circuit.specs.Wires.{Wire, Share, Shares}
+use Rattle.mask_circuit.specs.declared.gates.Wire.{Wire}
+use Rattle.mask_circuit.specs.declared.gates.Wire.TheVariants.{Share}
+use Rattle.mask_circuit.specs.Wires.{Shares}
 use Rattle.mask_circuit.specs.Expansion.{CircuitWire, draws, expand, wire_count}
 use Rattle.mask_circuit.specs.Probing.{AgreeOn, HasAtMost, IsNI, IsSimulated, seen, size, sum_over_tapes}
 use Rattle.mask_circuit.specs.Need.{ShareSet, inner_probes, need, need_from, probes_at}

@@ -1,7 +1,8 @@
 -- The wires of a circuit by number and by name.
 use Rattle.std.specs.Prelude.{◌≡◌, ℕ, ◌+◌, ◌<◌, ◌≤◌, slice_get, Some}
 use Rattle.mask_circuit.specs.Netlist.{Netlist, value_count}
-use Rattle.mask_circuit.specs.Wires.{Wire, Share}
+use Rattle.mask_circuit.specs.declared.gates.Wire.{Wire}
+use Rattle.mask_circuit.specs.declared.gates.Wire.TheVariants.{Share}
 use Rattle.mask_circuit.specs.Expansion.{names, names_of, wires_before, wire_count}
 use Rattle.mask_circuit.specs.Probing.{share_place}
 

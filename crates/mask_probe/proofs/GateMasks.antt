@@ -3,7 +3,8 @@ use Rattle.std.proofs.Common.{◌≡◌, ℕ, suc, ◌+◌, List, get_or, Some, 
 use Rattle.mask_circuit.specs.declared.gates.Gate.{Gate}
 use Rattle.mask_circuit.specs.declared.gates.Gate.TheVariants.{And, Ref}
 use Rattle.mask_circuit.specs.Netlist.{Netlist}
-use Rattle.mask_circuit.specs.Wires.{Wire, gate_names}
+use Rattle.mask_circuit.specs.declared.gates.Wire.{Wire}
+use Rattle.mask_circuit.specs.Wires.{gate_names}
 use Rattle.mask_circuit.specs.Expansion.{names_by, names_of}
 use Rattle.mask_circuit.specs.Need.{ShareSet}
 use Rattle.mask_circuit.specs.Acceptance.{gate_at}

@@ -5,7 +5,8 @@ use Rattle.std.proofs.lemmas.Option.{slice_get-get_or}
 use Rattle.mask_circuit.specs.declared.gates.Gate.{Gate}
 use Rattle.mask_circuit.specs.declared.gates.Gate.TheVariants.{Zero}
 use Rattle.mask_circuit.specs.Netlist.{Netlist, OperandsBelow, AreGates, IsCircuit, value_count}
-use Rattle.mask_circuit.specs.Wires.{Wire, gate_draws}
+use Rattle.mask_circuit.specs.declared.gates.Wire.{Wire}
+use Rattle.mask_circuit.specs.Wires.{gate_draws}
 use Rattle.mask_circuit.specs.Expansion.{CircuitWire}
 use Rattle.mask_circuit.specs.Need.{ShareSet, inner_probes, product_rows, demand, need_from}
 use Rattle.mask_circuit.specs.Acceptance.{gate_at}

@@ -9,7 +9,7 @@ use Rattle.mask_circuit.specs.Wires.{each, pairs, fresh_of, fresh_between}
 use Rattle.mask_circuit.specs.Shift.{add_bits}
 use Rattle.mask_laws.specs.Names.{pair_number}
 use Rattle.mask_laws.proofs.Lookup.{fresh_of-at}
-use Rattle.mask_circuit.proofs.Pairs.{length-pairs, pair_number-lt}
+use Rattle.mask_circuit.proofs.PairNumbers.{length-pairs, pair_number-lt}
 use Rattle.mask_circuit.proofs.Places.{length-each}
 use Rattle.mask_laws.proofs.Tapes.{length-add_bits}
 use Rattle.mask_bits.specs.Reading.{lowest, number}

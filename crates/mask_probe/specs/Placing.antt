@@ -1,7 +1,7 @@
 -- Probes by the value whose wires they are on.
 use Rattle.std.specs.Prelude.{ℕ, ◌<◌, List, length, map, All, slice_index_or}
 use Rattle.mask_circuit.specs.Netlist.{Netlist, value_count}
-use Rattle.mask_circuit.specs.Wires.{Share}
+use Rattle.mask_circuit.specs.declared.gates.Wire.TheVariants.{Share}
 use Rattle.mask_circuit.specs.Expansion.{CircuitWire, names_of}
 use Rattle.mask_probe.specs.declared.places.Placed.{Placed}
 

@@ -3,7 +3,8 @@
 ghost use Rattle.std.specs.Prelude.{◌≡◌, ◌≢◌, ◌+◌, ◌<◌, ◌≤◌, ◌==◌, ◌&&◌, not, length};
 ghost use Rattle.mask_circuit.specs.Netlist.{OperandsBelow};
 ghost use Rattle.mask_circuit.specs.Ring.{bits};
-ghost use Rattle.mask_circuit.specs.Wires.{Share, pairs, fresh_between, cross, product_wire, refresh_wire, gate_draws, gate_wire};
+ghost use Rattle.mask_circuit.specs.declared.gates.Wire.TheVariants.{Share};
+ghost use Rattle.mask_circuit.specs.Wires.{pairs, fresh_between, cross, product_wire, refresh_wire, gate_draws, gate_wire};
 ghost use Rattle.mask_sni.specs.Asked.{bit_shares};
 ghost use Rattle.mask_probe.specs.Sides.{byte_shares, bits_from, fresh_from, IsOutput};
 

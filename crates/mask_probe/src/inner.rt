@@ -2,7 +2,8 @@
 
 ghost use Rattle.std.specs.Prelude.{◌≡◌, ℕ, ◌<◌, ◌≤◌, ◌||◌, false, length, All, IfSome, slice_index_or};
 ghost use Rattle.mask_circuit.specs.Netlist.{value_count};
-ghost use Rattle.mask_circuit.specs.Wires.{Share, gate_names};
+ghost use Rattle.mask_circuit.specs.declared.gates.Wire.TheVariants.{Share};
+ghost use Rattle.mask_circuit.specs.Wires.{gate_names};
 ghost use Rattle.mask_circuit.specs.Expansion.{names_by, names_of};
 ghost use Rattle.mask_circuit.specs.Need.{inner_probes, is_share, probed_shares};
 ghost use Rattle.mask_circuit.specs.Shift.{is_some_of};

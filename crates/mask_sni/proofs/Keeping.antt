@@ -9,7 +9,9 @@ use Rattle.mask_bits.proofs.Numbers.{lowest-of}
 use Rattle.mask_circuit.specs.declared.gates.Gate.{Gate}
 use Rattle.mask_circuit.specs.declared.gates.Gate.TheVariants.{And, Ref}
 use Rattle.mask_circuit.specs.Ring.{bits}
-use Rattle.mask_circuit.specs.Wires.{Wire, Share, Shares, each, pairs, gate_names, gate_draws, gate_wire, product_names, refresh_names}
+use Rattle.mask_circuit.specs.declared.gates.Wire.{Wire}
+use Rattle.mask_circuit.specs.declared.gates.Wire.TheVariants.{Share}
+use Rattle.mask_circuit.specs.Wires.{Shares, each, pairs, gate_names, gate_draws, gate_wire, product_names, refresh_names}
 use Rattle.mask_circuit.specs.Probing.{size}
 use Rattle.mask_circuit.specs.Need.{ShareSet, left_need, right_need, refresh_need}
 use Rattle.mask_circuit.specs.Shift.{gate_mask, add_bits}

@@ -3,7 +3,9 @@ use Rattle.std.proofs.Common.{◌≡◌, ℕ, zero, suc, ◌+◌, ◌-◌, ◌*�
 use Rattle.std.proofs.Math.Nat.{div-lt_iff_lt-mul}
 use Rattle.std.proofs.lemmas.Option.{get_or_from_slice_get}
 use Rattle.std.proofs.lemmas.Nat.{div-add-mod'}
-use Rattle.mask_circuit.specs.Wires.{Wire, Share, Product, Fresh, Left, Right, other, row_wire, product_names, refresh_names}
+use Rattle.mask_circuit.specs.declared.gates.Wire.{Wire}
+use Rattle.mask_circuit.specs.declared.gates.Wire.TheVariants.{Share, Product, Fresh, Left, Right}
+use Rattle.mask_circuit.specs.Wires.{other, row_wire, product_names, refresh_names}
 use Rattle.mask_circuit.specs.Pairs.{IsPair, pair_number, pair_count}
 use Rattle.mask_laws.proofs.LocalNumbers.{product_in_order, refresh_in_order}
 

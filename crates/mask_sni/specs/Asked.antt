@@ -3,7 +3,9 @@ use Rattle.std.specs.Prelude.{◌≡◌, ℕ, ◌+◌, ◌*◌, ◌<◌, ◌==�
 use Rattle.std.specs.List.{filter, list_any}
 use Rattle.std.specs.declared.option.Option.{Option}
 use Rattle.mask_bits.specs.Reading.{bit}
-use Rattle.mask_circuit.specs.Wires.{Wire, Share, Product, Fresh, Left, Right, Partial, Shares, each}
+use Rattle.mask_circuit.specs.declared.gates.Wire.{Wire}
+use Rattle.mask_circuit.specs.declared.gates.Wire.TheVariants.{Share, Product, Fresh, Left, Right, Partial}
+use Rattle.mask_circuit.specs.Wires.{Shares, each}
 use Rattle.mask_circuit.specs.Need.{ShareSet, is_share}
 use Rattle.mask_circuit.specs.Shift.{Sides}
 use Rattle.mask_sni.specs.declared.products.Sides as code

@@ -4,7 +4,9 @@ use Rattle.std.specs.Prelude.{◌≡◌, ℕ, ◌==◌, Bool, List, ◌++◌, le
 use Rattle.mask_bits.specs.Reading.{lowest}
 use Rattle.mask_circuit.specs.declared.gates.Gate.{Gate}
 use Rattle.mask_circuit.specs.Ring.{bits}
-use Rattle.mask_circuit.specs.Wires.{Wire, Share, Shares, each, pairs, gate_wire}
+use Rattle.mask_circuit.specs.declared.gates.Wire.{Wire}
+use Rattle.mask_circuit.specs.declared.gates.Wire.TheVariants.{Share}
+use Rattle.mask_circuit.specs.Wires.{Shares, each, pairs, gate_wire}
 use Rattle.mask_circuit.specs.Shift.{add_bits}
 use Rattle.mask_sni.specs.Asked.{bit_shares, wires_at}
 

@@ -1,7 +1,8 @@
 //! Which output share a wire of a product or a refresh is.
 
 ghost use Rattle.std.specs.Prelude.{◌≡◌, ◌<◌, ◌≤◌, length, slice_index_or};
-ghost use Rattle.mask_circuit.specs.Wires.{Share, product_names, refresh_names};
+ghost use Rattle.mask_circuit.specs.declared.gates.Wire.TheVariants.{Share};
+ghost use Rattle.mask_circuit.specs.Wires.{product_names, refresh_names};
 ghost use Rattle.mask_sni.specs.Asked.{share_number};
 
 use crate::wires::{product_wire, refresh_wire};

@@ -2,7 +2,8 @@
 
 ghost use Rattle.std.specs.Prelude.{◌≡◌, ◌+◌, ◌-◌, ◌*◌, ◌/◌, ◌<◌, ◌≤◌, length, slice_index_or, All};
 ghost use Rattle.arrayvec.specs.ArrayVec.{array_vec_len};
-ghost use Rattle.mask_circuit.specs.Wires.{Share, row_wire, product_names, refresh_names};
+ghost use Rattle.mask_circuit.specs.declared.gates.Wire.TheVariants.{Share};
+ghost use Rattle.mask_circuit.specs.Wires.{row_wire, product_names, refresh_names};
 ghost use Rattle.mask_circuit.specs.Need.{is_of_row, demands_left};
 ghost use Rattle.mask_circuit.specs.Probing.{same_wire};
 ghost use Rattle.mask_circuit.specs.Shift.{wire_between};

@@ -1,4 +1,4 @@
-use Rattle.mask_circuit.proofs.Pairs.{length-pairs, pair_number-closed, pair_number-lt, slice_get-pairs}
+use Rattle.mask_circuit.proofs.PairNumbers.{length-pairs, pair_number-closed, pair_number-lt, slice_get-pairs}
 use Rattle.mask_circuit.proofs.pairs.pair_number.Goals as goal
 
 pub returns-clause-value : goal.returns-clause-value

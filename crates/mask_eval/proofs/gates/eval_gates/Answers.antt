@@ -4,7 +4,8 @@ use Rattle.std.proofs.lemmas.List.Sums.{sum_by-drop_more}
 use Rattle.mask_circuit.specs.declared.gates.Gate.{Gate}
 use Rattle.mask_circuit.specs.declared.gates.Gate.TheVariants.{Zero}
 use Rattle.mask_circuit.specs.Ring.{words}
-use Rattle.mask_circuit.specs.Wires.{Share, gate_draws}
+use Rattle.mask_circuit.specs.declared.gates.Wire.TheVariants.{Share}
+use Rattle.mask_circuit.specs.Wires.{gate_draws}
 use Rattle.mask_circuit.specs.Netlist.{AreGates}
 use Rattle.mask_circuit.specs.Expansion.{Carried, shares_of, start, run}
 use Rattle.mask_shares.specs.Sharing.{all_listed}

@@ -2,7 +2,8 @@ use Rattle.std.proofs.Common.{◌≡◌, ℕ, Bool, true, false, cond, ◌==◌,
 use Rattle.std.proofs.lemmas.List.{get_or_read}
 use Rattle.mask_circuit.specs.declared.gates.Gate.TheVariants.{Zero, One}
 use Rattle.mask_circuit.specs.Ring.{words}
-use Rattle.mask_circuit.specs.Wires.{Share, on_first, gate_wire}
+use Rattle.mask_circuit.specs.declared.gates.Wire.TheVariants.{Share}
+use Rattle.mask_circuit.specs.Wires.{on_first, gate_wire}
 use Rattle.mask_shares.specs.Sharing.{all_listed}
 use Rattle.mask_shares.proofs.Lists.{each-same}
 use Rattle.mask_tape.specs.Drawn.{ahead}

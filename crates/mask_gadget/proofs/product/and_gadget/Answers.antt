@@ -3,13 +3,15 @@ use Rattle.std.proofs.lemmas.List.{append-nil, length-set, length-replicate}
 use Rattle.std.proofs.lemmas.List.Edits.{fill_by_more}
 use Rattle.mask_circuit.specs.declared.gates.Gate.TheVariants.{And}
 use Rattle.mask_circuit.specs.Ring.{words}
-use Rattle.mask_circuit.specs.Wires.{Wire, Share, product_wire}
+use Rattle.mask_circuit.specs.declared.gates.Wire.{Wire}
+use Rattle.mask_circuit.specs.declared.gates.Wire.TheVariants.{Share}
+use Rattle.mask_circuit.specs.Wires.{product_wire}
 use Rattle.mask_bits.specs.Lanes.{lane}
 use Rattle.mask_shares.specs.Sharing.{listed}
 use Rattle.mask_shares.proofs.Lists.{is_each}
 use Rattle.mask_gadget.specs.Gadgets.{coins_of, pair_coin}
 use Rattle.mask_gadget.proofs.Made.{map-each}
-use Rattle.mask_circuit.proofs.Pairs.{length-pairs}
+use Rattle.mask_circuit.proofs.PairNumbers.{length-pairs}
 use Rattle.mask_gadget.proofs.Products.{front, front_made, rows_more, share_more, all_made}
 use Rattle.mask_gadget.proofs.Lanes.{out_of_words, wires_of_words, length-lane}
 use Rattle.mask_gadget.proofs.Unmasking.{unmasked-and}

@@ -1,6 +1,7 @@
 use Rattle.std.proofs.Common.{◌≡◌, ℕ, ◌+◌, ◌-◌, ◌*◌, ◌<◌, ◌++◌, length, map, get_or}
 use Rattle.mask_circuit.specs.Ring.{words}
-use Rattle.mask_circuit.specs.Wires.{Share, joined, product_wire}
+use Rattle.mask_circuit.specs.declared.gates.Wire.TheVariants.{Share}
+use Rattle.mask_circuit.specs.Wires.{joined, product_wire}
 use Rattle.mask_laws.specs.Names.{pair_count}
 use Rattle.mask_shares.specs.Sharing.{listed}
 use Rattle.mask_gadget.specs.Gadgets.{pair_coin}

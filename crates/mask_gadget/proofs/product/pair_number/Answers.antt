@@ -1,4 +1,4 @@
-use Rattle.mask_circuit.proofs.Pairs.{pair_number-closed, pair_number-lt}
+use Rattle.mask_circuit.proofs.PairNumbers.{pair_number-closed, pair_number-lt}
 use Rattle.mask_gadget.proofs.product.pair_number.Goals as goal
 
 pub returns-clause-value : goal.returns-clause-value

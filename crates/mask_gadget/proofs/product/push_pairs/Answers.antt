@@ -3,7 +3,7 @@ use Rattle.mask_circuit.specs.Ring.{words}
 use Rattle.mask_circuit.specs.Wires.{product_wire}
 use Rattle.mask_shares.specs.Sharing.{listed}
 use Rattle.mask_gadget.specs.Gadgets.{pair_coin, pair_row}
-use Rattle.mask_circuit.proofs.Pairs.{small, length-pairs, pairs_before-all, pairs_before-more}
+use Rattle.mask_circuit.proofs.PairNumbers.{small, length-pairs, pairs_before-all, pairs_before-more}
 use Rattle.mask_gadget.proofs.Pairs.{row_more, row_within, next_row}
 use Rattle.mask_gadget.proofs.product.push_pairs.Goals as goal
 

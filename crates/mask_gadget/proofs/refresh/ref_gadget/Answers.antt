@@ -1,13 +1,15 @@
 use Rattle.std.proofs.Common.{ℕ, suc, ◌-◌, [], ◌∷◌, length, arith, ◌∙◌, ap, sym}
 use Rattle.mask_circuit.specs.declared.gates.Gate.TheVariants.{Ref}
 use Rattle.mask_circuit.specs.Ring.{words}
-use Rattle.mask_circuit.specs.Wires.{Wire, Share, refresh_wire}
+use Rattle.mask_circuit.specs.declared.gates.Wire.{Wire}
+use Rattle.mask_circuit.specs.declared.gates.Wire.TheVariants.{Share}
+use Rattle.mask_circuit.specs.Wires.{refresh_wire}
 use Rattle.mask_bits.specs.Lanes.{lane}
 use Rattle.mask_shares.specs.Sharing.{listed}
 use Rattle.mask_shares.proofs.Lists.{is_each}
 use Rattle.mask_gadget.specs.Gadgets.{coins_of, pair_coin, update_row}
 use Rattle.mask_gadget.proofs.Made.{map-each}
-use Rattle.mask_circuit.proofs.Pairs.{small, length-pairs, pairs_before-all, pairs_before-more}
+use Rattle.mask_circuit.proofs.PairNumbers.{small, length-pairs, pairs_before-all, pairs_before-more}
 use Rattle.mask_gadget.proofs.Pairs.{row_more, row_within, next_row}
 use Rattle.mask_gadget.proofs.Refreshes.{all_done, all_updates}
 use Rattle.mask_gadget.proofs.Lanes.{out_of_words, wires_of_words, length-lane}

@@ -1,6 +1,7 @@
 use Rattle.std.proofs.Common.{◌≡◌, ◌<◌, ◌^◌}
 use Rattle.mask_circuit.specs.Ring.{bits}
-use Rattle.mask_circuit.specs.Wires.{Share, each, gate_draws, gate_wire}
+use Rattle.mask_circuit.specs.declared.gates.Wire.TheVariants.{Share}
+use Rattle.mask_circuit.specs.Wires.{each, gate_draws, gate_wire}
 use Rattle.mask_bits.specs.Reading.{number}
 use Rattle.mask_probe.specs.Sides.{byte_shares, bits_from}
 use Rattle.mask_probe.proofs.gadgets.gate_shares.Given as goal

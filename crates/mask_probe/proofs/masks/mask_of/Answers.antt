@@ -1,7 +1,8 @@
 use Rattle.std.proofs.Common.{◌≡◌, ℕ, List, Some, sym, ap, ap₂, subst, ◌∙◌}
 use Rattle.mask_circuit.specs.declared.gates.Gate.{Gate}
 use Rattle.mask_circuit.specs.declared.gates.Gate.TheVariants.{And, Ref}
-use Rattle.mask_circuit.specs.Wires.{Wire, product_names, refresh_names}
+use Rattle.mask_circuit.specs.declared.gates.Wire.{Wire}
+use Rattle.mask_circuit.specs.Wires.{product_names, refresh_names}
 use Rattle.mask_circuit.specs.Expansion.{names_of}
 use Rattle.mask_circuit.specs.Need.{inner_probes}
 use Rattle.mask_circuit.specs.Shift.{gate_mask}

@@ -1,6 +1,6 @@
 use Rattle.std.proofs.Common.{Bool, arith}
 use Rattle.mask_circuit.specs.Wires.{Pair}
-use Rattle.mask_circuit.proofs.Pairs.{small}
+use Rattle.mask_circuit.proofs.PairNumbers.{small}
 use Rattle.mask_sni.specs.Asked.{in_places}
 use Rattle.mask_sni.specs.Kinds.{mask_of}
 use Rattle.mask_sni.proofs.Masks.{mask_more, mask_all, small_more, small_power}
