@@ -51,7 +51,7 @@ IsSimulated c N P I = (x y : ℕ → Shares Bool) → AgreeOn c N I x y → (v :
 abbrev pub HasAtMost : Netlist → ℕ → ShareSets → ℕ → Type 0
 HasAtMost c N I t = (v : ℕ) → v < c.inputs → size N (I v) ≤ t
 
--- Non-interference: any t wires, t at most N - 1, are simulated from at most t shares of each input.
+-- Non-interference: any t wires, t at most N - 1, are simulatable from at most t shares of each input.
 abbrev pub IsNI : Netlist → ℕ → Type 0
 IsNI c N = (P : List ℕ) → All (λ p. p < wire_count c N) P → length P < N →
     (I : ShareSets) × HasAtMost c N I (length P) × IsSimulated c N P I
@@ -93,7 +93,7 @@ output_places c N O = joined_outputs c.outputs 0
     joined_outputs (u ∷ us) k = map (share_place c N u) (filter (O k) (each (λ i. i) N)) ++ joined_outputs us (suc k)
 
 -- Strong non-interference, for several outputs: t inner wires, together with any shares of output k as long as these
--- and the t wires are at most N - 1 for each k, are simulated from at most t shares of each input.
+-- and the t wires are at most N - 1 for each k, are simulatable from at most t shares of each input.
 abbrev pub IsSNI : Netlist → ℕ → Type 0
 IsSNI c N = (P : List ℕ) (O : ℕ → ℕ → Bool) →
     All (λ p. (p < wire_count c N) × IsInner c N p) P →

@@ -96,7 +96,7 @@ gate_mask n (Not u) Q O s s' = []
 gate_mask n (And u v) Q O s s' = map (λ p. product_mask n Q O (sides_of s s' u) (sides_of s s' v) p.0 p.1) (pairs n)
 gate_mask n (Ref u) Q O s s' = map (λ p. refresh_mask n Q O (sides_of s s' u) p.0 p.1) (pairs n)
 
--- the sum of two lists of bits, as long as the first
+-- the XOR of two lists of bits, as long as the first
 abbrev pub add_bits : List Bool → List Bool → List Bool
 add_bits [] ms = []
 add_bits (b ∷ bs) [] = b ∷ bs

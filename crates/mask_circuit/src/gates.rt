@@ -10,9 +10,9 @@ pub enum Gate {
     Zero,
     /// The bit 1.
     One,
-    /// The exclusive or of two values.
+    /// The XOR of two values.
     Xor(u32, u32),
-    /// The negation of a value.
+    /// The NOT of a value.
     Not(u32),
     /// The product of two values.
     And(u32, u32),

@@ -61,7 +61,7 @@ fn gate_share<const N: usize>(
     }
 }
 
-// Output share i of the product of a and b: the sum of a_i · b_i and all r_ik.
+// Output share i of the product of a and b: the XOR of a_i · b_i and all r_ik.
 fn product_share<const N: usize>(a: u8, b: u8, tape: &Bits, start: usize, i: usize) -> bool
     requires some { 2 ≤ N }
     requires few { N ≤ 8 }
@@ -115,7 +115,7 @@ fn cross_bit<const N: usize>(a: u8, b: u8, tape: &Bits, start: usize, i: usize, 
     fresh ^ left ^ right
 }
 
-// Share i of a refresh of a: the sum of a_i and the fresh bits of all its pairs.
+// Share i of a refresh of a: the XOR of a_i and the fresh bits of all its pairs.
 fn refresh_share<const N: usize>(a: u8, tape: &Bits, start: usize, i: usize) -> bool
     requires some { 2 ≤ N }
     requires few { N ≤ 8 }

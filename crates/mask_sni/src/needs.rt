@@ -85,7 +85,7 @@ fn is_needed(wires: &[Wire], operand: Operand, i: u8) -> bool
     }
 }
 
-// Whether a probe on this wire demands share i of the second operand: a_j · b_i does, and a sum v between a touched row
+// Whether a probe on this wire demands share i of the second operand: a_j · b_i does, and a wire v between a touched row
 // and row i that isn't touched.
 fn demands_right(wires: &[Wire], wire: Wire, i: u8) -> bool
     ensures { result ≡ demands_right (product_rows wires.now) i wire }

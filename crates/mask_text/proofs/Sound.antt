@@ -15,7 +15,9 @@ use Rattle.mask_text.specs.Lines.{text_lines, spoken}
 use Rattle.mask_text.specs.Sayings.{said}
 use Rattle.mask_text.specs.Text.{IsText}
 use Rattle.mask_text.specs.Faults.{Draft, at, of_inputs, more_inputs, more_gate, more_outputs, more_out, is_full, has_no_gates, has_no_groups_out, if_so, goes_on, has_taken_name, is_known, is_within, at_start, reading, unless_unsaid}
-use Rattle.mask_text.proofs.Circuits.{operands_below, circuit-inputs, circuit-gate, circuit-out}
+use Rattle.mask_circuit.proofs.Growing.{IsCircuit-with_gate}
+use Rattle.mask_circuit.proofs.Plain.{IsLabelled-plain}
+use Rattle.mask_text.proofs.Circuits.{operands_below, circuit-inputs, circuit-out}
 use Rattle.mask_text.proofs.Groups.{sizes-push, length-push, AreGroups-push, IsOpen, open-none, open-push}
 use Rattle.mask_text.proofs.Fronts.{empty_list, first_front-gate, first_front-out, second_front-input, second_front-gate, second_front-group, second_front-out}
 use Rattle.mask_text.proofs.Rights.{IsRight, right_means}
@@ -46,30 +48,8 @@ Holds Plain l ls = IsCircuit l.circuit × (ls ≡ first_front l.circuit)
 Holds Named l ls = IsDraft l × (ls ≡ second_front l)
 Holds Ended l ls = IsLabelled l × Spells l ls
 
-sizes-one : (name : List ℕ) (n : ℕ) → sizes (one_group name n) ≡ n
-sizes-one name zero = refl
-sizes-one name (suc n) = omega arith
-
-few-one : (name : List ℕ) (n : ℕ) → length (one_group name n) ≤ 1000
-few-one name zero = omega arith
-few-one name (suc n) = omega arith
-
-are-one : (name : List ℕ) (n : ℕ) → is_name name ≡ true → AreGroups [] (one_group name n)
-unfolding is_taken
-are-one name zero named = tt
-are-one name (suc n) named = (named, (let some : 1 ≤ suc n = omega arith in some), refl, tt)
-
 pub plain-labelled : (c : Netlist) → IsCircuit c → IsLabelled (with_plain_groups c)
-unfolding is_name
-plain-labelled c is = record {
-  circuit = is;
-  inputs = are-one _ c.inputs refl;
-  few_inputs = few-one _ c.inputs;
-  all_inputs = sizes-one _ c.inputs;
-  outputs = are-one _ (length c.outputs) refl;
-  few_outputs = few-one _ (length c.outputs);
-  all_outputs = sizes-one _ (length c.outputs);
-}
+plain-labelled c is = IsLabelled-plain c _ _ is refl refl
 
 -- a test that a line had to pass
 if_passed : (b : Bool) (p : Section) (l : LabelledNetlist) (e : Draft) → if_so b p l ≡ Some e → (b ≡ true) × (at p l ≡ e)
@@ -117,7 +97,7 @@ draft-input l name n is small right no_gates no_groups =
 draft-gate : (l : LabelledNetlist) (g : Gate) → IsDraft l → IsRight l (Makes g) → IsDraft (more_gate l g)
 unfolding is_known is_within
 draft-gate l g is right = record {
-  circuit = circuit-gate l.circuit g is.circuit (operands_below _ g right.known) (ltb-true _ _ right.within);
+  circuit = IsCircuit-with_gate l.circuit g is.circuit (operands_below _ g right.known) (ltb-true _ _ right.within);
   inputs = is.inputs;
   few_inputs = is.few_inputs;
   all_inputs = is.all_inputs;
@@ -206,7 +186,7 @@ advance Plain l (Makes gate) e ls h s g w =
     let passed = if_passed (eqb (length l.circuit.outputs) 0) Plain (more_gate l gate) e g in
     let none = empty_list l.circuit.outputs (eqb-true _ _ passed.0) in
     subst (λ d. Holds d.section d.so_far (ls ++ Makes gate ∷ [])) passed.1 (
-      circuit-gate l.circuit gate h.0 (operands_below _ gate w.known) (ltb-true _ _ w.within),
+      IsCircuit-with_gate l.circuit gate h.0 (operands_below _ gate w.known) (ltb-true _ _ w.within),
       ap (λ xs. xs ++ Makes gate ∷ []) h.1
           ∙ sym (first_front-gate l.circuit gate none),
     )

@@ -2,8 +2,6 @@
 use Rattle.std.specs.Prelude.{ℕ, ◌+◌, Bool, true, false, not, ◌&&◌, ◌==◌, nat_le, nat_lt, if◌then◌else◌, Option, Some, None, Result, Ok, Err, List, [], ◌∷◌, ◌++◌, length}
 use Rattle.mask_circuit.specs.declared.gates.Gate.{Gate}
 use Rattle.mask_circuit.specs.declared.gates.Gate.TheVariants.{Zero, One, Xor, Not, And, Ref}
-use Rattle.mask_circuit.specs.declared.limits.TheConstants.{MAX_VALUES, MAX_OUTPUTS}
-use Rattle.mask_circuit.specs.declared.labelled.TheConstants.{MAX_GROUPS}
 use Rattle.mask_circuit.specs.Netlist.{value_count, only_inputs, with_gate, with_output}
 use Rattle.mask_circuit.specs.Labels.{LabelledNetlist, is_taken, sizes, with_plain_groups}
 use Rattle.mask_circuit.specs.Text.{Line, First, Second, Inputs, Input, Makes, Output, Out, End}
@@ -100,13 +98,13 @@ is_known l (Makes gate) = are_below (value_count l.circuit) gate
 is_known l (Out u) = nat_lt u (value_count l.circuit)
 is_known l line = true
 
--- with it the circuit passes no limit
+-- with it the circuit has at most 1,000,000 values and 1,000,000 outputs, and at most 1,000 groups of either
 unfoldable pub is_within : LabelledNetlist → Line → Bool
-is_within l (Inputs n) = nat_le n MAX_VALUES
-is_within l (Input name n) = nat_lt (length l.inputs) MAX_GROUPS && nat_le (l.circuit.inputs + n) MAX_VALUES
-is_within l (Makes gate) = nat_lt (value_count l.circuit) MAX_VALUES
-is_within l (Output name n) = nat_lt (length l.outputs) MAX_GROUPS && nat_le (sizes l.outputs + n) MAX_OUTPUTS
-is_within l (Out u) = nat_lt (length l.circuit.outputs) MAX_OUTPUTS
+is_within l (Inputs n) = nat_le n 1_000_000
+is_within l (Input name n) = nat_lt (length l.inputs) 1_000 && nat_le (l.circuit.inputs + n) 1_000_000
+is_within l (Makes gate) = nat_lt (value_count l.circuit) 1_000_000
+is_within l (Output name n) = nat_lt (length l.outputs) 1_000 && nat_le (sizes l.outputs + n) 1_000_000
+is_within l (Out u) = nat_lt (length l.circuit.outputs) 1_000_000
 is_within l line = true
 
 -- what is wrong with a line that may stand where it does

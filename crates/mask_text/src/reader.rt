@@ -1,7 +1,6 @@
 //! A reader takes the lines of a text one by one.
 
 ghost use Rattle.std.specs.Prelude.{◌≡◌, ℕ, ◌+◌, ◌<◌, ◌≤◌, ◌↔◌, [], true, false, nat_le, length, is_some, Some, None, IsTrue, IsSome, IfErr, OnOk};
-ghost use Rattle.mask_circuit.specs.declared.limits.TheConstants.{MAX_VALUES, MAX_OUTPUTS};
 ghost use Rattle.mask_circuit.specs.Netlist.{value_count, only_inputs};
 ghost use Rattle.mask_circuit.specs.Labels.{is_name, is_taken, IsLabelled, with_plain_groups};
 ghost use Rattle.mask_text.specs.Lines.{words, words_of, is_passed_over};
@@ -198,7 +197,7 @@ impl Reader {
         requires named { is_name name.now ≡ true }
         requires no_gates { self.old.builder.gates ≡ [] }
         requires no_outputs { self.old.builder.outputs ≡ [] }
-        requires few { self.old.builder.inputs + size ≤ MAX_VALUES }
+        requires few { self.old.builder.inputs + size ≤ 1_000_000 }
         ensures added { OnOk result (labelled_of self.new ≡ faults.more_inputs (labelled_of self.old) name.now size) }
         ensures section { OnOk result (self.new.section ≡ self.old.section) }
         ensures promised { OnOk result (self.new.promised ≡ self.old.promised) }
@@ -215,7 +214,7 @@ impl Reader {
 
     fn add_output(&mut self, name: &[u8], size: u32) -> Result<(), Stop>
         requires named { is_name name.now ≡ true }
-        requires few { self.old.promised + size ≤ MAX_OUTPUTS }
+        requires few { self.old.promised + size ≤ 1_000_000 }
         ensures added { OnOk result (labelled_of self.new ≡ faults.more_outputs (labelled_of self.old) name.now size) }
         ensures section { OnOk result (self.new.section ≡ self.old.section) }
         ensures promised { OnOk result (self.new.promised ≡ self.old.promised + size) }
@@ -230,7 +229,7 @@ impl Reader {
     }
 
     fn set_inputs(&mut self, alloc: Global, count: u32) -> Result<(), Stop>
-        requires few { count ≤ MAX_VALUES }
+        requires few { count ≤ 1_000_000 }
         requires reading { IsReading self.old }
         ensures { GivesDraft result self.new (Some (faults.at Plain (record (labelled_of self.old) { circuit = only_inputs count }))) }
     {
