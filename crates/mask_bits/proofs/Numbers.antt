@@ -26,12 +26,10 @@ lowest-cons (suc n) word =
 pub lowest-more : (n word : ℕ) → lowest (n + 1) word ≡ lowest n word ++ bit n word ∷ []
 lowest-more n word = rw (add-one n) refl
 
--- one bit more, as `(word >> i) & 1 == 1` tests it
-pub tested_more : (bits so_far now : List Bool) (i word : ℕ) → so_far ≡ bits ++ lowest i word
-    → now ≡ so_far ++ nat_eq (bit_and (word / 2 ^ i) 1) 1 ∷ [] → now ≡ bits ++ lowest (i + 1) word
-tested_more bits so_far now i word so_far_is now_is =
-    let test : nat_eq (bit_and (word / 2 ^ i) 1) 1 ≡ bit i word = ap (λ b. nat_eq b 1) (shr_and_one word i) in
-    rw (now_is, so_far_is, test, lowest-more i word) (append_assoc bits (lowest i word) (bit i word ∷ []))
+-- one bit more at the end of a list
+pub pushed_more : (bits so_far now : List Bool) (i word : ℕ) (b : Bool) → so_far ≡ bits ++ lowest i word → b ≡ bit i word
+    → now ≡ so_far ++ b ∷ [] → now ≡ bits ++ lowest (i + 1) word
+pushed_more bits so_far now i word b so_far_is is now_is = rw (now_is, so_far_is, is, lowest-more i word) (append_assoc bits (lowest i word) (bit i word ∷ []))
 
 -- each of the bits, whatever comes after
 pub get_or-lowest : (n i word : ℕ) (more : List Bool) → i < n → get_or (lowest n word ++ more) i false ≡ bit i word

@@ -8,7 +8,7 @@ ghost use Rattle.mask_circuit.specs.Wires.{pairs, fresh_between, cross, product_
 ghost use Rattle.mask_sni.specs.Asked.{bit_shares};
 ghost use Rattle.mask_probe.specs.Sides.{byte_shares, bits_from, fresh_from, IsOutput};
 
-use crate::sides::{append_share, bit_of};
+use crate::sides::{append_share, share_of};
 use mask_bits::Bits;
 use mask_circuit::{Gate, pair_number};
 
@@ -52,8 +52,8 @@ fn gate_share<const N: usize>(
     match gate {
         Gate::Zero => false,
         Gate::One => i == 0,
-        Gate::Xor(u, v) => bit_of(shares[u as usize], i) ^ bit_of(shares[v as usize], i),
-        Gate::Not(u) => bit_of(shares[u as usize], i) ^ (i == 0),
+        Gate::Xor(u, v) => share_of(shares[u as usize], i) ^ share_of(shares[v as usize], i),
+        Gate::Not(u) => share_of(shares[u as usize], i) ^ (i == 0),
         Gate::And(u, v) => {
             product_share::<N>(shares[u as usize], shares[v as usize], tape, start, i)
         }
@@ -70,7 +70,7 @@ fn product_share<const N: usize>(a: u8, b: u8, tape: &Bits, start: usize, i: usi
     ensures { result
         ≡ product_wire bits N (bit_shares a) (bit_shares b) (fresh_from N tape.now start) (Share i) }
 {
-    let mut sum = bit_of(a, i) && bit_of(b, i);
+    let mut sum = share_of(a, i) && share_of(b, i);
     for k in 0..N {
         sum ^= product_column::<N>(a, b, tape, start, i, k);
     }
@@ -110,8 +110,8 @@ fn cross_bit<const N: usize>(a: u8, b: u8, tape: &Bits, start: usize, i: usize, 
     if i < k {
         return fresh;
     }
-    let left = bit_of(a, k) && bit_of(b, i);
-    let right = bit_of(a, i) && bit_of(b, k);
+    let left = share_of(a, k) && share_of(b, i);
+    let right = share_of(a, i) && share_of(b, k);
     fresh ^ left ^ right
 }
 
@@ -124,7 +124,7 @@ fn refresh_share<const N: usize>(a: u8, tape: &Bits, start: usize, i: usize) -> 
     ensures { result
         ≡ refresh_wire bits N (bit_shares a) (fresh_from N tape.now start) (Share i) }
 {
-    let mut sum = bit_of(a, i);
+    let mut sum = share_of(a, i);
     for k in 0..N {
         sum ^= refresh_column::<N>(tape, start, i, k);
     }

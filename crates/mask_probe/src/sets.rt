@@ -4,7 +4,7 @@ ghost use Rattle.std.specs.Prelude.{◌≡◌, ℕ, ◌<◌, ◌≤◌, ◌==◌
 ghost use Rattle.mask_sni.specs.Asked.{bit_shares, in_places, members};
 ghost use Rattle.mask_probe.specs.Asking.{has_share};
 
-use crate::sides::bit_of;
+use mask_bits::bit_of;
 use mask_sni::Places;
 use std::marker::Model;
 
@@ -35,7 +35,7 @@ impl ShareSet {
         requires { share < 8 }
         ensures { result ≡ bit_shares self share }
     {
-        bit_of(self.bits, share)
+        bit_of(self.bits as u64, share as u32)
     }
 
     /// The set with a share more.

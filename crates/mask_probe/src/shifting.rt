@@ -8,7 +8,7 @@ ghost use Rattle.mask_probe.specs.Shifting.{masked_bits, IsShifted};
 
 use crate::gadgets::gate_shares;
 use crate::sides::inputs_of;
-use mask_bits::Bits;
+use mask_bits::{Bits, bit_of};
 use mask_circuit::{Gate, pair_count};
 use std::alloc::{AllocError, Global};
 
@@ -75,7 +75,7 @@ fn push_masked(new: &mut Bits, tape: &Bits, count: usize, mask: u32) -> Result<(
     ensures { OnOk result (new.new ≡ new.old ++ masked_bits tape.now (length new.old) count mask) }
 {
     for p in 0..count {
-        let flip = (mask >> p) & 1 == 1;
+        let flip = bit_of(mask as u64, p as u32);
         let bit = tape.get(new.len());
         new.push(bit ^ flip)?;
     }

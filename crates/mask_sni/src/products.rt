@@ -7,6 +7,7 @@ ghost use Rattle.mask_sni.specs.Asked.{bit_shares, in_places, operand_sides};
 use crate::Places;
 use crate::partners::{is_flipped_with, is_probed_between};
 use crate::wires::{Kind, touches};
+use mask_bits::bit_of;
 use mask_circuit::Wire;
 
 /// An operand on two sides: bit i is share i.
@@ -104,5 +105,5 @@ pub(crate) fn share_of(shares: u8, i: u8) -> bool
     requires { i < 8 }
     ensures { result ≡ bit_shares shares i }
 {
-    (shares >> i) & 1 == 1
+    bit_of(shares as u64, i as u32)
 }
