@@ -1,9 +1,9 @@
 -- The local numbers of a gate's wires.
-use Rattle.std.proofs.Common.{◌≡◌, ℕ, zero, suc, pred, ◌+◌, ◌-◌, ◌*◌, ◌/◌, ◌<◌, ◌≤◌, ◌++◌, length, flat_map, slice_get, Some, refl, ◌∙◌, subst, arith, add-zero, length-append}
+use Rattle.std.proofs.Common.{◌≡◌, ℕ, pred, ◌+◌, ◌-◌, ◌*◌, ◌<◌, ◌++◌, length, flat_map, slice_get, Some, refl, ◌∙◌, arith, add-zero, length-append}
 use Rattle.mask_circuit.specs.declared.gates.Wire.{Wire}
 use Rattle.mask_circuit.specs.declared.gates.Wire.TheVariants.{Share, Product, Fresh, Left, Right}
-use Rattle.mask_circuit.specs.Wires.{Pair, each, joined, row_pairs, pairs, other, row_wire, product_names, refresh_names}
-use Rattle.mask_laws.specs.Names.{IsPair, pairs_before, pair_number, pair_count, PairsInOrder, ProductInOrder, RefreshInOrder, SharesInOrder, NamesInOrder}
+use Rattle.mask_circuit.specs.Wires.{each, pairs, other, row_wire, product_names, refresh_names}
+use Rattle.mask_laws.specs.Names.{IsPair, pair_number, pair_count, PairsInOrder, ProductInOrder, RefreshInOrder, SharesInOrder, NamesInOrder}
 use Rattle.mask_circuit.proofs.PairNumbers.{length-pairs, slice_get-pairs}
 use Rattle.mask_laws.proofs.Names.{products, of_pair, rows, updates}
 use Rattle.mask_circuit.proofs.Places.{slice_get-append_front, back_at, length-each, slice_get-each, slice_get-joined, length-joined, slice_get-threes, length-threes}

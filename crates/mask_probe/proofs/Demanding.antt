@@ -1,5 +1,5 @@
 -- Which shares are demanded, gate by gate.
-use Rattle.std.proofs.Common.{◌≡◌, ℕ, zero, suc, ◌+◌, ◌<◌, false, ◌&&◌, ◌||◌, ◌==◌, ◌⊎◌, inl, inr, List, [], ◌∷◌, length, drop, slice_index, slice_index_or, slice_set, All, bit_or, refl, ap, ap₂, sym, ◌∙◌, subst, arith, add-zero, eq-eqb, ne_eqb, get_or-set_same, get_or-set_other, drop-cons}
+use Rattle.std.proofs.Common.{◌≡◌, ℕ, zero, suc, ◌+◌, ◌<◌, false, ◌&&◌, ◌||◌, ◌==◌, ◌⊎◌, inl, inr, List, [], ◌∷◌, length, drop, slice_index, slice_index_or, slice_set, All, refl, ap, ap₂, sym, ◌∙◌, subst, arith, add-zero, eq-eqb, ne_eqb, get_or-set_same, get_or-set_other, drop-cons}
 use Rattle.std.proofs.Math.Seq.{drop-nil}
 use Rattle.std.proofs.lemmas.Bool.{cases_eq}
 use Rattle.std.proofs.lemmas.Option.{slice_get-get_or}

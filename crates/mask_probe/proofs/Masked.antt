@@ -1,18 +1,16 @@
 -- The fresh bits of a gate in a tape, and a tape with masks added.
-use Rattle.std.proofs.Common.{◌≡◌, ℕ, zero, suc, ◌+◌, ◌<◌, ◌≤◌, Bool, false, List, [], ◌∷◌, ◌++◌, length, take, drop, get_or, refl, sym, ap, ◌∙◌, arith, add-one, append_assoc, length-append, length-drop}
+use Rattle.std.proofs.Common.{◌≡◌, ℕ, ◌+◌, ◌<◌, ◌≤◌, Bool, false, List, [], ◌∷◌, ◌++◌, length, drop, get_or, refl, sym, ap, ◌∙◌, arith, add-one, append_assoc, length-append, length-drop}
 use Rattle.std.proofs.lemmas.Bool.{lt-ltb, le-ltb}
-use Rattle.std.proofs.lemmas.List.{get_or-take, get_or-drop, take_more, take_all, length-take-le}
-use Rattle.std.proofs.Math.Seq.{take-suc}
+use Rattle.std.proofs.lemmas.List.{get_or-take, get_or-drop, take_more, length-take-le}
 use Rattle.mask_circuit.specs.Ring.{bits}
 use Rattle.mask_circuit.specs.Value.{xor}
-use Rattle.mask_circuit.specs.Wires.{each, pairs, fresh_of, fresh_between}
+use Rattle.mask_circuit.specs.Wires.{pairs, fresh_of, fresh_between}
 use Rattle.mask_circuit.specs.Shift.{add_bits}
 use Rattle.mask_laws.specs.Names.{pair_number}
 use Rattle.mask_laws.proofs.Lookup.{fresh_of-at}
 use Rattle.mask_circuit.proofs.PairNumbers.{length-pairs, pair_number-lt}
-use Rattle.mask_circuit.proofs.Places.{length-each}
 use Rattle.mask_laws.proofs.Tapes.{length-add_bits}
-use Rattle.mask_bits.specs.Reading.{lowest, number}
+use Rattle.mask_bits.specs.Reading.{lowest}
 use Rattle.mask_sni.specs.Asked.{bit_shares}
 use Rattle.mask_bits.proofs.Numbers.{length-lowest}
 use Rattle.mask_probe.specs.Sides.{bits_from}

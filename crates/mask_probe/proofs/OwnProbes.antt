@@ -21,7 +21,7 @@ use Rattle.mask_laws.proofs.CircuitNames.{IsShareBelow, gate_names-below}
 use Rattle.mask_laws.proofs.Demands.{inner_probes-append}
 use Rattle.mask_laws.proofs.Probes.{is_inner_at}
 use Rattle.mask_sni.specs.Asked.{share_number, wires_at}
-use Rattle.mask_probe.specs.Placing.{ArePlaced, place_of, places_of}
+use Rattle.mask_probe.specs.Placing.{ArePlaced, wire_of, wires_of}
 use Rattle.mask_probe.specs.declared.places.Placed.{Placed}
 
 -- SHARES
@@ -48,7 +48,7 @@ share_at names N part e lt = rw (e, get_or_from_slice_get (share_names N) part (
 
 -- these local numbers of value v are those of its inner probes
 pub record AreInner (c : Netlist) (N v : ℕ) (placed : List Placed) (parts : List ℕ) : Type 0 where
-  pub wires : wires_at (names_of c N v) parts ≡ inner_probes v (places_of c N placed)
+  pub wires : wires_at (names_of c N v) parts ≡ inner_probes v (wires_of c N placed)
   pub local : All (λ p. p < length (names_of c N v)) parts
   pub inner : All (λ w. is_share w ≡ false) (wires_at (names_of c N v) parts)
 
@@ -58,31 +58,31 @@ placed_at placed k = slice_index_or placed k (record { value = 0; part = 0 })
 
 -- one probe more
 inner_probes-more : (c : Netlist) (N v : ℕ) (placed : List Placed) (k : ℕ) → k < length placed →
-    inner_probes v (places_of c N (take (k + 1) placed))
-    ≡ inner_probes v (places_of c N (take k placed)) ++ inner_probes v (place_of c N (placed_at placed k) ∷ [])
+    inner_probes v (wires_of c N (take (k + 1) placed))
+    ≡ inner_probes v (wires_of c N (take k placed)) ++ inner_probes v (wire_of c N (placed_at placed k) ∷ [])
 inner_probes-more c N v placed k lt =
-    rw (add-one k, take-suc placed k (record { value = 0; part = 0 }) lt, map-append (place_of c N) (take k placed) (placed_at placed k ∷ []))
-    (inner_probes-append v (places_of c N (take k placed)) (place_of c N (placed_at placed k) ∷ []))
+    rw (add-one k, take-suc placed k (record { value = 0; part = 0 }) lt, map-append (wire_of c N) (take k placed) (placed_at placed k ∷ []))
+    (inner_probes-append v (wires_of c N (take k placed)) (wire_of c N (placed_at placed k) ∷ []))
 
 -- a probe of another value is no inner one, and one on an output share isn't either
-pub not_inner_elsewhere : (c : Netlist) (N v : ℕ) (p : Placed) → (p.value ≡ v → ⊥) → is_inner_at v (place_of c N p) ≡ false
-not_inner_elsewhere c N v p other = ap (λ b. b && not (is_share (place_of c N p).1)) (ne_eqb p.value v other)
+pub not_inner_elsewhere : (c : Netlist) (N v : ℕ) (p : Placed) → (p.value ≡ v → ⊥) → is_inner_at v (wire_of c N p) ≡ false
+not_inner_elsewhere c N v p other = ap (λ b. b && not (is_share (wire_of c N p).1)) (ne_eqb p.value v other)
 
 -- the place of a probe of the value
-own_place : (c : Netlist) (N v : ℕ) (p : Placed) → p.value ≡ v → place_of c N p ≡ (v, slice_index_or (names_of c N v) p.part (Share 0))
+own_place : (c : Netlist) (N v : ℕ) (p : Placed) → p.value ≡ v → wire_of c N p ≡ (v, slice_index_or (names_of c N v) p.part (Share 0))
 own_place c N v p here = ap (λ u. (u, slice_index_or (names_of c N u) p.part (Share 0))) here
 
 pub not_inner_share : (c : Netlist) (N v : ℕ) (p : Placed) → p.value ≡ v → is_share (slice_index_or (names_of c N v) p.part (Share 0)) ≡ true →
-    is_inner_at v (place_of c N p) ≡ false
+    is_inner_at v (wire_of c N p) ≡ false
 not_inner_share c N v p here share = ap (is_inner_at v) (own_place c N v p here) ∙ ap (λ b. v == v && not b) share ∙ and_right (v == v) false refl
 
 -- a probe that is no inner one of the value ..
 pub inner_passed : (c : Netlist) (N v : ℕ) (placed : List Placed) (k : ℕ) (parts : List ℕ) → k < length placed →
-    is_inner_at v (place_of c N (placed_at placed k)) ≡ false → AreInner c N v (take k placed) parts → AreInner c N v (take (k + 1) placed) parts
+    is_inner_at v (wire_of c N (placed_at placed k)) ≡ false → AreInner c N v (take k placed) parts → AreInner c N v (take (k + 1) placed) parts
 inner_passed c N v placed k parts lt other so_far = record {
-  wires = so_far.wires ∙ sym (append-nil (inner_probes v (places_of c N (take k placed))))
-      ∙ ap (λ Q. inner_probes v (places_of c N (take k placed)) ++ Q)
-      (sym (ap (λ b. cons_option (cond b (Some (place_of c N (placed_at placed k)).1) None) []) other))
+  wires = so_far.wires ∙ sym (append-nil (inner_probes v (wires_of c N (take k placed))))
+      ∙ ap (λ Q. inner_probes v (wires_of c N (take k placed)) ++ Q)
+      (sym (ap (λ b. cons_option (cond b (Some (wire_of c N (placed_at placed k)).1) None) []) other))
       ∙ sym (inner_probes-more c N v placed k lt);
   local = so_far.local;
   inner = so_far.inner;
@@ -102,7 +102,7 @@ inner_taken c N v placed k parts lt here part inner so_far =
     = map-append (λ p. slice_index_or (names_of c N v) p (Share 0)) parts ((placed_at placed k).part ∷ []) in
     record {
       wires = grown ∙ ap (λ Q. Q ++ wire ∷ []) so_far.wires
-          ∙ ap (λ Q. inner_probes v (places_of c N (take k placed)) ++ Q) (sym taken ∙ ap (λ q. inner_probes v (q ∷ [])) (sym own))
+          ∙ ap (λ Q. inner_probes v (wires_of c N (take k placed)) ++ Q) (sym taken ∙ ap (λ q. inner_probes v (q ∷ [])) (sym own))
           ∙ sym (inner_probes-more c N v placed k lt);
       local = All-push (λ p. p < length (names_of c N v)) parts (placed_at placed k).part so_far.local part;
       inner = rw grown (All-push (λ w. is_share w ≡ false) (wires_at (names_of c N v) parts) wire so_far.inner inner);

@@ -14,26 +14,26 @@ use Rattle.mask_laws.proofs.Seen.{shift_keeps, shift_returns}
 use Rattle.mask_laws.proofs.Simulation.{accepted_fits}
 use Rattle.mask_laws.proofs.Symmetry.{mask_is_symmetric}
 use Rattle.mask_probe.specs.Asking.{AreProbes}
-use Rattle.mask_probe.specs.Placing.{places_of}
+use Rattle.mask_probe.specs.Placing.{wires_of}
 use Rattle.mask_probe.specs.declared.places.Placed.{Placed}
 
 -- c is the admitted circuit, and c' and c'' are it as two calls hand it out
 module _ (c c' c'' : Netlist) (N : ℕ) (P : List ℕ) (placed now : List Placed) (first : c' ≡ c) (second : c'' ≡ c)
-    (located : places_of c' N placed ≡ probes_at c' N P) (same : now ≡ placed) where
-  places_are : places_of c'' N now ≡ probes_at c N P
+    (located : wires_of c' N placed ≡ probes_at c' N P) (same : now ≡ placed) where
+  places_are : wires_of c'' N now ≡ probes_at c N P
   places_are =
-      ap₂ (λ (d : Netlist) (l : List Placed). places_of d N l) (second ∙ sym first) same ∙ located
+      ap₂ (λ (d : Netlist) (l : List Placed). wires_of d N l) (second ∙ sym first) same ∙ located
       ∙ ap (λ (d : Netlist). probes_at d N P) first
 
   -- the probes fit as they are placed
-  pub placed_fit : IsCircuit c → IsAccepted c → length P < N → FitsFrom N (places_of c'' N now) c''.gates c''.inputs
+  pub placed_fit : IsCircuit c → IsAccepted c → length P < N → FitsFrom N (wires_of c'' N now) c''.gates c''.inputs
   placed_fit circuit accepted few =
-      subst (λ (d : Netlist). FitsFrom N (places_of c'' N now) d.gates d.inputs) (sym second)
+      subst (λ (d : Netlist). FitsFrom N (wires_of c'' N now) d.gates d.inputs) (sym second)
       (subst (λ (l : List CircuitWire). FitsFrom N l c.gates c.inputs) (sym places_are) (accepted_fits c N P circuit.gates accepted few))
 
   -- and the new tape is that of the shift
   pub placed_shift : (x y : ℕ → Shares Bool) (tape new : List Bool) →
-      new ≡ shift_from (places_of c'' N now) N c''.gates c''.inputs (start bits x) (start bits y) tape → new ≡ shift c N x y P tape
+      new ≡ shift_from (wires_of c'' N now) N c''.gates c''.inputs (start bits x) (start bits y) tape → new ≡ shift c N x y P tape
   placed_shift x y tape new made =
       made ∙ ap₂ (λ (d : Netlist) (l : List CircuitWire). shift_from l N d.gates d.inputs (start bits x) (start bits y) tape) second places_are
 

@@ -9,7 +9,7 @@ use Rattle.mask_circuit.specs.Netlist.{OperandsBelow}
 use Rattle.mask_circuit.specs.Ring.{bits}
 use Rattle.mask_circuit.specs.declared.gates.Wire.{Wire}
 use Rattle.mask_circuit.specs.declared.gates.Wire.TheVariants.{Share}
-use Rattle.mask_circuit.specs.Wires.{Shares, each, pairs, gate_draws, gate_wire}
+use Rattle.mask_circuit.specs.Wires.{Shares, pairs, gate_draws, gate_wire}
 use Rattle.mask_circuit.specs.Expansion.{CircuitWire, Carried, shares_of, put, start}
 use Rattle.mask_circuit.specs.Need.{ShareSet, inner_probes, need_from}
 use Rattle.mask_circuit.specs.Shift.{add_bits, gate_mask, shift_from}

@@ -2,9 +2,8 @@
 use Rattle.std.specs.Prelude.{◌≡◌, ℕ, List, Bool, [], ◌∷◌, ◌++◌, length}
 use Rattle.mask_bits.specs.Reading.{lowest}
 use Rattle.mask_circuit.specs.declared.gates.Gate.{Gate}
-use Rattle.mask_circuit.specs.Wires.{each, gate_draws}
+use Rattle.mask_circuit.specs.Wires.{gate_draws}
 use Rattle.mask_circuit.specs.Shift.{add_bits}
-use Rattle.mask_sni.specs.Asked.{bit_shares}
 use Rattle.mask_probe.specs.Sides.{bits_from, IsOutput}
 use Rattle.mask_probe.specs.declared.shifting.Shifting.{Shifting}
 

@@ -11,7 +11,7 @@ ghost use Rattle.mask_laws.specs.Circuits.{FitsAt};
 ghost use Rattle.mask_laws.specs.Gadgets.{FitsGate};
 ghost use Rattle.mask_sni.specs.Asked.{bit_shares};
 ghost use Rattle.mask_probe.specs.Asking.{IsWithin, has_share};
-ghost use Rattle.mask_probe.specs.Placing.{ArePlaced, places_of};
+ghost use Rattle.mask_probe.specs.Placing.{ArePlaced, wires_of};
 
 use crate::inner::{inner_probes, probed_shares};
 use crate::places::Placed;
@@ -33,7 +33,7 @@ pub(crate) fn demanded<const N: usize>(
     requires few { length placed.now < N }
     ensures count { IfOk result (λ sets. length sets.items ≡ value_count circuit.now) }
     ensures sets { IfOk result (λ sets. (v i : ℕ) → v < value_count circuit.now → i < N
-        → has_share sets.items v i ≡ need_from (places_of circuit.now N placed.now) circuit.now.gates circuit.now.inputs v i) }
+        → has_share sets.items v i ≡ need_from (wires_of circuit.now N placed.now) circuit.now.gates circuit.now.inputs v i) }
     ensures within { IfOk result (λ sets. All (IsWithin N) sets.items) }
 {
     let circuit = circuit.circuit();
@@ -59,7 +59,7 @@ fn probed<const N: usize>(
     requires known { ArePlaced circuit.now N placed.now }
     ensures count { IfOk result (λ sets. length sets.items ≡ value_count circuit.now) }
     ensures sets { IfOk result (λ sets. (v i : ℕ) → v < value_count circuit.now → i < N
-        → has_share sets.items v i ≡ probed_shares (places_of circuit.now N placed.now) v i) }
+        → has_share sets.items v i ≡ probed_shares (wires_of circuit.now N placed.now) v i) }
     ensures within { IfOk result (λ sets. All (IsWithin N) sets.items) }
 {
     let mut sets = Vec::new(alloc);
@@ -85,9 +85,9 @@ fn pass_on<const N: usize>(
     requires gate { gate_at circuit.now value ≡ Some gate }
     requires earlier { OperandsBelow value gate }
     requires size { length sets.old ≡ value_count circuit.now }
-    requires fits { FitsAt N gate (inner_probes value (places_of circuit.now N placed.now)) (has_share sets.old value) }
+    requires fits { FitsAt N gate (inner_probes value (wires_of circuit.now N placed.now)) (has_share sets.old value) }
     ensures shares { (v i : ℕ) → i < N → has_share sets.new v i
-        ≡ (has_share sets.old v i || demand gate (inner_probes value (places_of circuit.now N placed.now)) (has_share sets.old value) v i) }
+        ≡ (has_share sets.old v i || demand gate (inner_probes value (wires_of circuit.now N placed.now)) (has_share sets.old value) v i) }
     ensures within { All (IsWithin N) sets.old → All (IsWithin N) sets.new }
 {
     let own = sets[value as usize];
@@ -132,9 +132,9 @@ fn product_needs<const N: usize>(
     requires few { length placed.now < N }
     requires value { value < value_count circuit.now }
     requires product { names_of circuit.now N value ≡ product_names N }
-    requires fits { FitsGate N (inner_probes value (places_of circuit.now N placed.now)) (bit_shares own) }
-    ensures left { (i : ℕ) → i < N → bit_shares result.0 i ≡ left_need (inner_probes value (places_of circuit.now N placed.now)) i }
-    ensures right { (i : ℕ) → i < N → bit_shares result.1 i ≡ right_need (inner_probes value (places_of circuit.now N placed.now)) i }
+    requires fits { FitsGate N (inner_probes value (wires_of circuit.now N placed.now)) (bit_shares own) }
+    ensures left { (i : ℕ) → i < N → bit_shares result.0 i ≡ left_need (inner_probes value (wires_of circuit.now N placed.now)) i }
+    ensures right { (i : ℕ) → i < N → bit_shares result.1 i ≡ right_need (inner_probes value (wires_of circuit.now N placed.now)) i }
     ensures left_within { IsWithin N result.0 }
     ensures right_within { IsWithin N result.1 }
 {
@@ -159,8 +159,8 @@ fn refresh_needs<const N: usize>(
     requires few { length placed.now < N }
     requires value { value < value_count circuit.now }
     requires refresh { names_of circuit.now N value ≡ refresh_names N }
-    requires fits { FitsGate N (inner_probes value (places_of circuit.now N placed.now)) (bit_shares own) }
-    ensures shares { (i : ℕ) → i < N → bit_shares result i ≡ refresh_need (inner_probes value (places_of circuit.now N placed.now)) i }
+    requires fits { FitsGate N (inner_probes value (wires_of circuit.now N placed.now)) (bit_shares own) }
+    ensures shares { (i : ℕ) → i < N → bit_shares result i ≡ refresh_need (inner_probes value (wires_of circuit.now N placed.now)) i }
     ensures within { IsWithin N result }
 {
     let inner = inner_probes::<N>(circuit, placed, value);

@@ -9,7 +9,7 @@ ghost use Rattle.mask_circuit.specs.Need.{inner_probes, is_share, probed_shares}
 ghost use Rattle.mask_circuit.specs.Shift.{is_some_of};
 ghost use Rattle.mask_sni.specs.Asked.{bit_shares, share_number, wires_at};
 ghost use Rattle.mask_probe.specs.Asking.{IsWithin};
-ghost use Rattle.mask_probe.specs.Placing.{ArePlaced, places_of};
+ghost use Rattle.mask_probe.specs.Placing.{ArePlaced, wires_of};
 
 use crate::places::Placed;
 use crate::sets::ShareSet;
@@ -27,7 +27,7 @@ pub(crate) fn inner_probes<const N: usize>(
     requires value { value < value_count circuit.now }
     requires known { ArePlaced circuit.now N placed.now }
     requires few { length placed.now < N }
-    ensures wires { wires_at (names_of circuit.now N value) result.items ≡ inner_probes value (places_of circuit.now N placed.now) }
+    ensures wires { wires_at (names_of circuit.now N value) result.items ≡ inner_probes value (wires_of circuit.now N placed.now) }
     ensures local { All (λ p. p < length (names_of circuit.now N value)) result.items }
     ensures inner { All (λ w. is_share w ≡ false) (wires_at (names_of circuit.now N value) result.items) }
 {
@@ -51,7 +51,7 @@ pub(crate) fn probed_shares<const N: usize>(
     requires most { N ≤ 8 }
     requires value { value < value_count circuit.now }
     requires known { ArePlaced circuit.now N placed.now }
-    ensures shares { (i : ℕ) → i < N → bit_shares result i ≡ probed_shares (places_of circuit.now N placed.now) value i }
+    ensures shares { (i : ℕ) → i < N → bit_shares result i ≡ probed_shares (wires_of circuit.now N placed.now) value i }
     ensures within { IsWithin N result }
 {
     let gate = circuit.gate_at(value);

@@ -8,7 +8,7 @@ ghost use Rattle.mask_circuit.specs.Shift.{gate_mask};
 ghost use Rattle.mask_laws.specs.Circuits.{FitsAt};
 ghost use Rattle.mask_bits.specs.Reading.{number};
 ghost use Rattle.mask_sni.specs.Asked.{bit_shares};
-ghost use Rattle.mask_probe.specs.Placing.{ArePlaced, places_of};
+ghost use Rattle.mask_probe.specs.Placing.{ArePlaced, wires_of};
 ghost use Rattle.mask_probe.specs.Sides.{byte_shares};
 
 use crate::inner::inner_probes;
@@ -36,9 +36,9 @@ pub(crate) fn mask_of<const N: usize>(
     requires gate { gate_at circuit.now value ≡ Some gate }
     requires first { OperandsBelow (length shifting.now.first.items) gate }
     requires second { OperandsBelow (length shifting.now.second.items) gate }
-    requires fits { FitsAt N gate (inner_probes value (places_of circuit.now N placed.now)) (bit_shares outputs) }
+    requires fits { FitsAt N gate (inner_probes value (wires_of circuit.now N placed.now)) (bit_shares outputs) }
     ensures { result
-        ≡ number (gate_mask N gate (inner_probes value (places_of circuit.now N placed.now)) (bit_shares outputs)
+        ≡ number (gate_mask N gate (inner_probes value (wires_of circuit.now N placed.now)) (bit_shares outputs)
         (byte_shares shifting.now.first.items) (byte_shares shifting.now.second.items)) }
 {
     let places = outputs.places::<N>();

@@ -3,7 +3,7 @@
 ghost use Rattle.std.specs.Prelude.{◌≡◌, ◌<◌, ◌≤◌, IfOk, IfErr, OnOk};
 ghost use Rattle.mask_circuit.specs.Need.{probes_at};
 ghost use Rattle.mask_probe.specs.Asking.{AreProbes, IsProbeRefusal};
-ghost use Rattle.mask_probe.specs.Placing.{ArePlaced, places_of};
+ghost use Rattle.mask_probe.specs.Placing.{ArePlaced, wires_of};
 ghost use Rattle.mask_probe.specs.declared.errors.ProbeError.TheVariants.{NoMemory};
 
 use crate::errors::ProbeError;
@@ -26,7 +26,7 @@ pub(crate) fn locate<const N: usize>(
     requires some { 2 ≤ N }
     requires few { N ≤ 8 }
     ensures asked { OnOk result (AreProbes circuit.now N probes.now) }
-    ensures places { IfOk result (λ placed. places_of circuit.now N placed.items ≡ probes_at circuit.now N probes.now) }
+    ensures places { IfOk result (λ placed. wires_of circuit.now N placed.items ≡ probes_at circuit.now N probes.now) }
     ensures known { IfOk result (λ placed. ArePlaced circuit.now N placed.items) }
     ensures refused { IfErr result (λ e. (e ≡ NoMemory → ⊥) × IsProbeRefusal circuit.now N probes.now e) }
 {

@@ -9,7 +9,7 @@ ghost use Rattle.mask_circuit.specs.Need.{need, need_from};
 ghost use Rattle.mask_circuit.specs.Shift.{shift, shift_from};
 ghost use Rattle.mask_laws.specs.Circuits.{FitsFrom};
 ghost use Rattle.mask_probe.specs.Asking.{AreProbes, IsProbeRefusal, has_share};
-ghost use Rattle.mask_probe.specs.Placing.{ArePlaced, places_of};
+ghost use Rattle.mask_probe.specs.Placing.{ArePlaced, wires_of};
 ghost use Rattle.mask_probe.specs.Sides.{input_shares};
 
 use crate::demands::demanded;
@@ -71,14 +71,14 @@ fn shifted<const N: usize>(
     requires few { N ≤ 8 }
     requires placed { ArePlaced circuit.now N placed.now }
     requires count { length placed.now < N }
-    requires fits { FitsFrom N (places_of circuit.now N placed.now) circuit.now.gates circuit.now.inputs }
+    requires fits { FitsFrom N (wires_of circuit.now N placed.now) circuit.now.gates circuit.now.inputs }
     requires sets { (v i : ℕ) → v < value_count circuit.now → i < N
-        → has_share sets.now v i ≡ need_from (places_of circuit.now N placed.now) circuit.now.gates circuit.now.inputs v i }
+        → has_share sets.now v i ≡ need_from (wires_of circuit.now N placed.now) circuit.now.gates circuit.now.inputs v i }
     requires values { length sets.now ≡ value_count circuit.now }
     requires x { length x.now ≡ N * circuit.now.inputs }
     requires y { length y.now ≡ N * circuit.now.inputs }
     requires tape { length tape.now ≡ draws circuit.now N }
-    ensures { IfOk result (λ r. r ≡ shift_from (places_of circuit.now N placed.now) N circuit.now.gates circuit.now.inputs
+    ensures { IfOk result (λ r. r ≡ shift_from (wires_of circuit.now N placed.now) N circuit.now.gates circuit.now.inputs
         (start bits (input_shares N x.now)) (start bits (input_shares N y.now)) tape.now) }
 {
     let mut shifting = begin::<N>(alloc, circuit.inputs(), x, y)?;

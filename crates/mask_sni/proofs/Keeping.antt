@@ -1,5 +1,5 @@
 -- The mask of a call keeps what is watched: the law of the gate at the bits of the mask.
-use Rattle.std.proofs.Common.{◌≡◌, ℕ, zero, suc, ◌-◌, ◌<◌, ◌≤◌, ◌==◌, ◌&&◌, inl, inr, Bool, true, false, List, [], ◌∷◌, length, map, get_or, All, Contains, refl, sym, ◌∙◌, subst, arith}
+use Rattle.std.proofs.Common.{◌≡◌, ℕ, ◌<◌, ◌≤◌, ◌==◌, ◌&&◌, inl, inr, Bool, true, List, length, map, get_or, All, Contains, refl, sym, ◌∙◌, arith}
 use Rattle.std.proofs.lemmas.List.{length-map}
 use Rattle.std.proofs.lemmas.List.Elements.{All-append, All-map, All-weaker, All-contains, All-contains_itself, Contains-get_or}
 use Rattle.std.proofs.lemmas.List.Folds.{list_any_at}
@@ -11,7 +11,7 @@ use Rattle.mask_circuit.specs.declared.gates.Gate.TheVariants.{And, Ref}
 use Rattle.mask_circuit.specs.Ring.{bits}
 use Rattle.mask_circuit.specs.declared.gates.Wire.{Wire}
 use Rattle.mask_circuit.specs.declared.gates.Wire.TheVariants.{Share}
-use Rattle.mask_circuit.specs.Wires.{Shares, each, pairs, gate_names, gate_draws, gate_wire, product_names, refresh_names}
+use Rattle.mask_circuit.specs.Wires.{Shares, pairs, gate_names, gate_draws, gate_wire, product_names, refresh_names}
 use Rattle.mask_circuit.specs.Probing.{size}
 use Rattle.mask_circuit.specs.Need.{ShareSet, left_need, right_need, refresh_need}
 use Rattle.mask_circuit.specs.Shift.{gate_mask, add_bits}

@@ -1,5 +1,5 @@
 -- What is asked about a product or a refresh.
-use Rattle.std.specs.Prelude.{◌≡◌, ℕ, ◌+◌, ◌*◌, ◌<◌, ◌==◌, Bool, false, cond, List, [], ◌∷◌, length, map, All, slice_index_or, Some, None}
+use Rattle.std.specs.Prelude.{◌≡◌, ℕ, ◌+◌, ◌<◌, ◌==◌, Bool, false, cond, List, length, map, All, slice_index_or, Some, None}
 use Rattle.std.specs.List.{filter, list_any}
 use Rattle.std.specs.declared.option.Option.{Option}
 use Rattle.mask_bits.specs.Reading.{bit}

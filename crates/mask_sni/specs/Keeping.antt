@@ -1,12 +1,12 @@
 -- What the mask of a gate is for: with these fresh bits on the one side of the operands and the masked ones on the other,
 -- every probe and every named output share shows the same.
-use Rattle.std.specs.Prelude.{◌≡◌, ℕ, ◌==◌, Bool, List, ◌++◌, length, map, All}
+use Rattle.std.specs.Prelude.{◌≡◌, ℕ, Bool, List, ◌++◌, length, map, All}
 use Rattle.mask_bits.specs.Reading.{lowest}
 use Rattle.mask_circuit.specs.declared.gates.Gate.{Gate}
 use Rattle.mask_circuit.specs.Ring.{bits}
 use Rattle.mask_circuit.specs.declared.gates.Wire.{Wire}
 use Rattle.mask_circuit.specs.declared.gates.Wire.TheVariants.{Share}
-use Rattle.mask_circuit.specs.Wires.{Shares, each, pairs, gate_wire}
+use Rattle.mask_circuit.specs.Wires.{Shares, pairs, gate_wire}
 use Rattle.mask_circuit.specs.Shift.{add_bits}
 use Rattle.mask_sni.specs.Asked.{bit_shares, wires_at}
 

@@ -108,14 +108,7 @@ fn pair_bit(flipped: bool, p: u8) -> u32
 }
 
 // Whether the fresh bit of the pair (i, j) is flipped.
-fn is_flipped(
-    n: u8,
-    wires: &[Wire],
-    outputs: &Places,
-    operands: Operands,
-    i: u8,
-    j: u8,
-) -> bool
+fn is_flipped(n: u8, wires: &[Wire], outputs: &Places, operands: Operands, i: u8, j: u8) -> bool
     requires some { 2 ≤ n }
     requires most { n ≤ 8 }
     requires row { i < j }
@@ -129,14 +122,7 @@ fn is_flipped(
 }
 
 // The same in a refresh of a.
-fn is_flipped_in_refresh(
-    n: u8,
-    wires: &[Wire],
-    outputs: &Places,
-    a: Sides,
-    i: u8,
-    j: u8,
-) -> bool
+fn is_flipped_in_refresh(n: u8, wires: &[Wire], outputs: &Places, a: Sides, i: u8, j: u8) -> bool
     requires row { i < 8 }
     requires column { j < 8 }
     ensures { result ≡ refresh_mask n wires.now (in_places outputs.now.items) (operand_sides a) i j }

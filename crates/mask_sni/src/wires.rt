@@ -57,8 +57,8 @@ pub(crate) fn is_between(kind: Kind, wire: Wire, i: u8, k: u8) -> bool
 {
     let (lower, higher) = if i < k { (i, k) } else { (k, i) };
     match (kind, wire) {
-        (Kind::Product, Wire::Left(first, second))
-        | (Kind::Refresh, Wire::Fresh(first, second)) => lower == first && higher == second,
+        (Kind::Product, Wire::Left(first, second)) | (Kind::Refresh, Wire::Fresh(first, second)) =>
+            lower == first && higher == second,
         _ => false,
     }
 }

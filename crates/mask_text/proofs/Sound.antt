@@ -1,12 +1,12 @@
 -- What is read is what the text stands for.
-use Rattle.std.proofs.Common.{◌≡◌, ℕ, zero, suc, ◌+◌, ◌<◌, ◌≤◌, Bool, true, false, not, ◌&&◌, leb, ltb, eqb, List, [], ◌∷◌, ◌++◌, length, map, Some, Result, Ok, Err, ◌⊎◌, inl, inr, refl, sym, ap, ◌∙◌, subst, append_assoc, append-nil, arith, leb-true, leb-false, ltb-true, eqb-true}
+use Rattle.std.proofs.Common.{◌≡◌, ℕ, ◌+◌, ◌<◌, ◌≤◌, Bool, true, false, not, ◌&&◌, leb, ltb, eqb, List, [], ◌∷◌, ◌++◌, length, map, Some, Result, Ok, Err, ◌⊎◌, inl, inr, refl, sym, ap, ◌∙◌, subst, append_assoc, append-nil, arith, leb-true, leb-false, ltb-true, eqb-true}
 use Rattle.std.proofs.lemmas.Bool.{and_parts, not-true}
 use Rattle.std.proofs.lemmas.List.{map-append}
 use Rattle.mask_circuit.specs.declared.gates.Gate.{Gate}
 use Rattle.mask_circuit.specs.declared.limits.TheConstants.{MAX_VALUES, MAX_OUTPUTS}
 use Rattle.mask_circuit.specs.declared.labelled.TheConstants.{MAX_GROUPS}
 use Rattle.mask_circuit.specs.Netlist.{Netlist, IsCircuit, only_inputs}
-use Rattle.mask_circuit.specs.Labels.{LabelledNetlist, IsLabelled, AreGroups, is_taken, is_name, sizes, one_group, with_plain_groups}
+use Rattle.mask_circuit.specs.Labels.{LabelledNetlist, IsLabelled, AreGroups, sizes, with_plain_groups}
 use Rattle.mask_circuit.specs.Text.{Line, First, Second, Inputs, Input, Makes, Output, Out, End, line_words, first_front, second_front, first_lines, second_lines}
 use Rattle.mask_text.specs.declared.section.Section.{Section}
 use Rattle.mask_text.specs.declared.section.Section.TheVariants.{Start, Size, Plain, Named, Ended}

@@ -140,12 +140,7 @@ fn tells_what_failed(rt: HostRuntime) -> Result<(), Fail> {
 }
 
 // A line of a group whose name has two letters.
-fn push_group(
-    text: &mut Vec<u8>,
-    before: &[u8],
-    group: u8,
-    after: &[u8],
-) -> Result<(), AllocError>
+fn push_group(text: &mut Vec<u8>, before: &[u8], group: u8, after: &[u8]) -> Result<(), AllocError>
     requires { group < 60 }
 {
     text.extend_from_slice(before)?;

@@ -9,7 +9,7 @@ use Rattle.mask_circuit.specs.Shift.{gate_mask}
 use Rattle.mask_laws.specs.Circuits.{FitsAt}
 use Rattle.mask_bits.specs.Reading.{number}
 use Rattle.mask_sni.specs.Asked.{bit_shares, wires_at}
-use Rattle.mask_probe.specs.Placing.{places_of}
+use Rattle.mask_probe.specs.Placing.{wires_of}
 use Rattle.mask_probe.specs.Sides.{byte_shares}
 use Rattle.mask_probe.proofs.Demanding.{AreAsked-inner}
 use Rattle.mask_probe.proofs.GateMasks.{names_of-gate, product_mask_of, refresh_mask_of}
@@ -17,7 +17,7 @@ use Rattle.mask_probe.proofs.masks.mask_of.Goals as goal
 
 pub and_shift-requires-clause-asked : goal.and_shift-requires-clause-asked
 and_shift-requires-clause-asked g c =
-    let Q : List Wire = inner_probes c.args.value (places_of c.args.circuit.now g.row.N c.args.placed.now) in
+    let Q : List Wire = inner_probes c.args.value (wires_of c.args.circuit.now g.row.N c.args.placed.now) in
     AreAsked-inner g.row.N (product_names g.row.N) (names_of c.args.circuit.now g.row.N c.args.value) c.inner_probes-probes.result.items
     c.places-places.result.items Q (bit_shares c.args.outputs)
     (names_of-gate c.args.circuit.now g.row.N c.args.value (And c.in-And.u c.in-And.v) (c.requires.gate ∙ ap Some c.in-And.is))
@@ -26,7 +26,7 @@ and_shift-requires-clause-asked g c =
 
 pub ref_shift-requires-clause-asked : goal.ref_shift-requires-clause-asked
 ref_shift-requires-clause-asked g c =
-    let Q : List Wire = inner_probes c.args.value (places_of c.args.circuit.now g.row.N c.args.placed.now) in
+    let Q : List Wire = inner_probes c.args.value (wires_of c.args.circuit.now g.row.N c.args.placed.now) in
     AreAsked-inner g.row.N (refresh_names g.row.N) (names_of c.args.circuit.now g.row.N c.args.value) c.inner_probes-probes-in-Ref.result.items
     c.places-places.result.items Q (bit_shares c.args.outputs)
     (names_of-gate c.args.circuit.now g.row.N c.args.value (Ref c.in-Ref.u) (c.requires.gate ∙ ap Some c.in-Ref.is))
@@ -38,7 +38,7 @@ returns-in-And g c =
     let N : ℕ = g.row.N in
     let u : ℕ = c.in-And.u in
     let v : ℕ = c.in-And.v in
-    let Q : List Wire = inner_probes c.args.value (places_of c.args.circuit.now N c.args.placed.now) in
+    let Q : List Wire = inner_probes c.args.value (wires_of c.args.circuit.now N c.args.placed.now) in
     let inner : wires_at (product_names N) c.inner_probes-probes.result.items ≡ Q
     = ap (λ (l : List Wire). wires_at l c.inner_probes-probes.result.items)
     (sym (names_of-gate c.args.circuit.now N c.args.value (And u v) (c.requires.gate ∙ ap Some c.in-And.is))) ∙ c.inner_probes-probes.ensures.wires in
@@ -54,7 +54,7 @@ pub returns-in-Ref : goal.returns-in-Ref
 returns-in-Ref g c =
     let N : ℕ = g.row.N in
     let u : ℕ = c.in-Ref.u in
-    let Q : List Wire = inner_probes c.args.value (places_of c.args.circuit.now N c.args.placed.now) in
+    let Q : List Wire = inner_probes c.args.value (wires_of c.args.circuit.now N c.args.placed.now) in
     let inner : wires_at (refresh_names N) c.inner_probes-probes-in-Ref.result.items ≡ Q
     = ap (λ (l : List Wire). wires_at l c.inner_probes-probes-in-Ref.result.items)
     (sym (names_of-gate c.args.circuit.now N c.args.value (Ref u) (c.requires.gate ∙ ap Some c.in-Ref.is))) ∙ c.inner_probes-probes-in-Ref.ensures.wires in

@@ -1,4 +1,4 @@
-use Rattle.std.proofs.Common.{ℕ, ◌/◌, ◌^◌, ◌++◌, Bool, not, nat_eq, bit_and, [], ◌∷◌, get_or, length, false, arith, ◌∙◌, ap, length-append}
+use Rattle.std.proofs.Common.{ℕ, ◌++◌, Bool, not, [], ◌∷◌, get_or, length, false, arith, ◌∙◌, ap, length-append}
 use mathlib.Core.Bool.{beq}
 use Rattle.mask_sni.proofs.Sums.{xor_code}
 use Rattle.mask_probe.proofs.Masked.{masked_more}

@@ -1,8 +1,6 @@
 use Rattle.std.proofs.Common.{◌≡◌, ◌++◌, length, arith, ap}
 use Rattle.mask_bits.specs.Reading.{lowest}
-use Rattle.mask_circuit.specs.Wires.{each}
 use Rattle.mask_circuit.specs.Shift.{add_bits}
-use Rattle.mask_sni.specs.Asked.{bit_shares}
 use Rattle.mask_probe.specs.Sides.{bits_from}
 use Rattle.mask_probe.proofs.Masked.{length-masked}
 use Rattle.mask_probe.proofs.shifting.shift_gate.Goals as goal

@@ -3,13 +3,13 @@ use Rattle.std.proofs.lemmas.List.{get_or_read}
 use Rattle.mask_bits.specs.Reading.{lowest}
 use Rattle.mask_circuit.specs.declared.gates.Gate.{Gate}
 use Rattle.mask_circuit.specs.declared.gates.Gate.TheVariants.{Zero}
-use Rattle.mask_circuit.specs.Wires.{each, gate_draws}
+use Rattle.mask_circuit.specs.Wires.{gate_draws}
 use Rattle.mask_circuit.specs.Expansion.{CircuitWire, start}
 use Rattle.mask_circuit.specs.Need.{inner_probes, need_from}
 use Rattle.mask_circuit.specs.Ring.{bits}
 use Rattle.mask_circuit.specs.Shift.{shift_from}
 use Rattle.mask_sni.specs.Asked.{bit_shares}
-use Rattle.mask_probe.specs.Placing.{places_of}
+use Rattle.mask_probe.specs.Placing.{wires_of}
 use Rattle.mask_probe.specs.Sides.{input_shares}
 use Rattle.mask_probe.proofs.Demanding.{FitsAt-same}
 use Rattle.mask_probe.proofs.Gates.{at_gate}
@@ -24,32 +24,32 @@ loop-gate-init g c = record {
   second = c.in_ok-shifting.ensures.second ∙ c.inputs.ensures ∙ sym c.inputs-value.ensures;
   used = rw c.in_ok-shifting.ensures.tape (omega arith);
   walked = rw (c.in_ok-shifting.ensures.tape, c.inputs-value.ensures)
-      (walked_none (places_of c.args.circuit.now g.row.N c.args.placed.now) g.row.N c.args.circuit.now.gates c.args.circuit.now.inputs
+      (walked_none (wires_of c.args.circuit.now g.row.N c.args.placed.now) g.row.N c.args.circuit.now.gates c.args.circuit.now.inputs
       c.in_ok-shifting.shifting.first.items c.in_ok-shifting.shifting.second.items (input_shares g.row.N c.args.x.now) (input_shares g.row.N c.args.y.now) c.args.tape.now
       (λ u i lt hi. c.in_ok-shifting.ensures.first_shares u i (omega arith) hi) (λ u i lt hi. c.in_ok-shifting.ensures.second_shares u i (omega arith) hi));
 }
 
 pub mask_of-mask-requires-clause-gate : goal.mask_of-mask-requires-clause-gate
 mask_of-mask-requires-clause-gate g c =
-    let at = at_gate c.args.circuit.now g.row.N (places_of c.args.circuit.now g.row.N c.args.placed.now) c.loop-gate.gate-index c.loop-gate.value
+    let at = at_gate c.args.circuit.now g.row.N (wires_of c.args.circuit.now g.row.N c.args.placed.now) c.loop-gate.gate-index c.loop-gate.value
     c.gates-gate-items.result.now c.gates-gate-items.ensures.circuit c.requires.fits c.gates-gate-items.ensures.same c.loop-gate.invariant.value (omega arith) in
     at.gate
 
 pub mask_of-mask-requires-clause-first : goal.mask_of-mask-requires-clause-first
 mask_of-mask-requires-clause-first g c =
-    let at = at_gate c.args.circuit.now g.row.N (places_of c.args.circuit.now g.row.N c.args.placed.now) c.loop-gate.gate-index c.loop-gate.value
+    let at = at_gate c.args.circuit.now g.row.N (wires_of c.args.circuit.now g.row.N c.args.placed.now) c.loop-gate.gate-index c.loop-gate.value
     c.gates-gate-items.result.now c.gates-gate-items.ensures.circuit c.requires.fits c.gates-gate-items.ensures.same c.loop-gate.invariant.value (omega arith) in
     rw c.loop-gate.invariant.first at.below
 
 pub mask_of-mask-requires-clause-second : goal.mask_of-mask-requires-clause-second
 mask_of-mask-requires-clause-second g c =
-    let at = at_gate c.args.circuit.now g.row.N (places_of c.args.circuit.now g.row.N c.args.placed.now) c.loop-gate.gate-index c.loop-gate.value
+    let at = at_gate c.args.circuit.now g.row.N (wires_of c.args.circuit.now g.row.N c.args.placed.now) c.loop-gate.gate-index c.loop-gate.value
     c.gates-gate-items.result.now c.gates-gate-items.ensures.circuit c.requires.fits c.gates-gate-items.ensures.same c.loop-gate.invariant.value (omega arith) in
     rw c.loop-gate.invariant.second at.below
 
 pub mask_of-mask-requires-clause-fits : goal.mask_of-mask-requires-clause-fits
 mask_of-mask-requires-clause-fits g c =
-    let P : List CircuitWire = places_of c.args.circuit.now g.row.N c.args.placed.now in
+    let P : List CircuitWire = wires_of c.args.circuit.now g.row.N c.args.placed.now in
     let h : Gate = get_or c.gates-gate-items.result.now c.loop-gate.gate-index Zero in
     let at = at_gate c.args.circuit.now g.row.N P c.loop-gate.gate-index c.loop-gate.value
     c.gates-gate-items.result.now c.gates-gate-items.ensures.circuit c.requires.fits c.gates-gate-items.ensures.same c.loop-gate.invariant.value (omega arith) in
@@ -59,26 +59,26 @@ mask_of-mask-requires-clause-fits g c =
 
 pub shift_gate-requires-clause-first : goal.shift_gate-requires-clause-first
 shift_gate-requires-clause-first g c =
-    let at = at_gate c.args.circuit.now g.row.N (places_of c.args.circuit.now g.row.N c.args.placed.now) c.loop-gate.gate-index c.loop-gate.value
+    let at = at_gate c.args.circuit.now g.row.N (wires_of c.args.circuit.now g.row.N c.args.placed.now) c.loop-gate.gate-index c.loop-gate.value
     c.gates-gate-items.result.now c.gates-gate-items.ensures.circuit c.requires.fits c.gates-gate-items.ensures.same c.loop-gate.invariant.value (omega arith) in
     rw c.loop-gate.invariant.first at.below
 
 pub shift_gate-requires-clause-second : goal.shift_gate-requires-clause-second
 shift_gate-requires-clause-second g c =
-    let at = at_gate c.args.circuit.now g.row.N (places_of c.args.circuit.now g.row.N c.args.placed.now) c.loop-gate.gate-index c.loop-gate.value
+    let at = at_gate c.args.circuit.now g.row.N (wires_of c.args.circuit.now g.row.N c.args.placed.now) c.loop-gate.gate-index c.loop-gate.value
     c.gates-gate-items.result.now c.gates-gate-items.ensures.circuit c.requires.fits c.gates-gate-items.ensures.same c.loop-gate.invariant.value (omega arith) in
     rw c.loop-gate.invariant.second at.below
 
 pub shift_gate-requires-clause-tape : goal.shift_gate-requires-clause-tape
 shift_gate-requires-clause-tape g c =
-    let at = at_gate c.args.circuit.now g.row.N (places_of c.args.circuit.now g.row.N c.args.placed.now) c.loop-gate.gate-index c.loop-gate.value
+    let at = at_gate c.args.circuit.now g.row.N (wires_of c.args.circuit.now g.row.N c.args.placed.now) c.loop-gate.gate-index c.loop-gate.value
     c.gates-gate-items.result.now c.gates-gate-items.ensures.circuit c.requires.fits c.gates-gate-items.ensures.same c.loop-gate.invariant.value (omega arith) in
     omega (arith, at.draws, c.loop-gate.invariant.used)
 
 pub loop-gate-preserved : goal.loop-gate-preserved
 loop-gate-preserved g c =
     let N : ℕ = g.row.N in
-    let P : List CircuitWire = places_of c.args.circuit.now N c.args.placed.now in
+    let P : List CircuitWire = wires_of c.args.circuit.now N c.args.placed.now in
     let k : ℕ = c.loop-gate.gate-index in
     let v : ℕ = c.loop-gate.value in
     let h : Gate = get_or c.gates-gate-items.result.now k Zero in

@@ -1,7 +1,6 @@
 use Rattle.std.proofs.Common.{rules, tests, sym, ◌∙◌}
 use Rattle.std.proofs.lemmas.Iterator.{YieldsList-from_slice}
 use Rattle.std.proofs.lemmas.Iterator.Search.{any_from_yields_List}
-use Rattle.mask_circuit.specs.Need.{demands_left, demands_right, product_rows}
 use Rattle.mask_sni.proofs.needs.is_needed.Goals as goal
 
 pub returns-else-touches : goal.returns-else-touches

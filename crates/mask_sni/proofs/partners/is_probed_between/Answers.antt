@@ -1,9 +1,6 @@
-use Rattle.std.proofs.Common.{rules, tests, ◌∙◌}
+use Rattle.std.proofs.Common.{rules, tests}
 use Rattle.std.proofs.lemmas.Iterator.{YieldsList-from_slice}
 use Rattle.std.proofs.lemmas.Iterator.Search.{any_from_yields_List}
-use Rattle.mask_circuit.specs.Probing.{same_wire}
-use Rattle.mask_circuit.specs.Shift.{wire_between}
-use Rattle.mask_sni.specs.Kinds.{pair_wire}
 use Rattle.mask_sni.proofs.partners.is_probed_between.Goals as goal
 
 pub returns : goal.returns

@@ -1,7 +1,6 @@
-use Rattle.std.proofs.Common.{rules, tests, ◌∙◌}
+use Rattle.std.proofs.Common.{rules, tests}
 use Rattle.std.proofs.lemmas.Iterator.{YieldsList-from_slice}
 use Rattle.std.proofs.lemmas.Iterator.Search.{any_from_yields_List}
-use Rattle.mask_sni.specs.Kinds.{touches}
 use Rattle.mask_sni.proofs.wires.touches.Goals as goal
 
 pub returns : goal.returns

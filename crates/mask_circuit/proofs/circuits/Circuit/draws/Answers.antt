@@ -1,4 +1,4 @@
-use Rattle.std.proofs.Common.{◌≡◌, ◌+◌, ◌-◌, ◌*◌, refl, arith}
+use Rattle.std.proofs.Common.{◌≡◌, ◌+◌, ◌-◌, refl, arith}
 use Rattle.mask_circuit.proofs.Draws.{draws-product}
 use Rattle.mask_circuit.proofs.circuits.Circuit.draws.Goals as goal
 
