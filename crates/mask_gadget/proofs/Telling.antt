@@ -1,6 +1,6 @@
 -- What a machine was told, one value and one list after another; and lists that are made while it is told them.
-use Rattle.std.proofs.Common.{◌≡◌, ℕ, suc, ◌+◌, ◌-◌, ◌<◌, ◌≤◌, Option, Some, None, List, [], ◌∷◌, ◌++◌, length, map, get_or, set, refl, sym, ap, ◌∙◌, arith, append_assoc}
-use Rattle.std.proofs.lemmas.List.{append-nil, map-append, map-set, get_or-map, length-map, length-set}
+use Rattle.std.proofs.Common.{◌≡◌, ℕ, suc, ◌+◌, ◌-◌, ◌<◌, ◌≤◌, Option, Some, None, List, [], ◌∷◌, ◌++◌, length, map, get_or, set, replicate, refl, sym, ap, ◌∙◌, arith, append_assoc}
+use Rattle.std.proofs.lemmas.List.{append-nil, map-append, map-set, get_or-map, length-map, length-set, length-replicate, get_or-replicate, map-id}
 use Rattle.std.proofs.lemmas.List.Edits.{fill_by_more}
 use Rattle.mask_circuit.specs.Wires.{each, joined}
 use Rattle.mask_shares.proofs.Lists.{length-each, is_each}
@@ -62,10 +62,32 @@ module _ {A : Type 0} (carried : A → ℕ) (n : ℕ) (f : ℕ → ℕ) where
     heard = told_each before told told' f i (carried x) so_far.heard now is;
   }
 
+  -- the same word everywhere, which is the first one
+  pub filled_made : (x : A) (before told : Option (List ℕ)) → 0 < n → carried x ≡ f 0 → told ≡ told_more before (carried x ∷ []) →
+      MadeTo carried n f 1 (replicate n x) before told
+  filled_made x before told some is now = record {
+    count = length-replicate n x;
+    made = λ k lt.
+        let here : k ≡ 0 = omega arith in
+        get_or-map carried (replicate n x) k x 0 (rw (length-replicate n x) (omega arith)) ∙ ap carried (get_or-replicate n k x x (omega arith)) ∙ is ∙ ap f (sym here);
+    heard = now ∙ rw is refl;
+  }
+
   pub all_made : (i : ℕ) (words : List A) (before told : Option (List ℕ)) → i ≡ n → MadeTo carried n f i words before told →
       (map carried words ≡ each f n) × (told ≡ told_more before (each f n))
   all_made i words before told end so_far =
       (is_each f n (map carried words) (length-map words carried ∙ so_far.count) (λ k lt. so_far.made k (omega arith)), rw end at so_far.heard)
+
+-- a list of all that was told since it was empty
+pub told_all : {A : Type 0} (before now all : List A) → before ≡ [] → Some now ≡ told_more (Some before) all → now ≡ all
+told_all {A = A} before now all none told =
+    let told' : Some now ≡ Some (before ++ all) = told in
+    let same : now ≡ before ++ all = cc in
+    same ∙ ap (λ (xs : List A). xs ++ all) none
+
+-- words that carry themselves
+pub plain_words : (xs ws : List ℕ) → xs ≡ ws → map (λ x. x) xs ≡ ws
+plain_words xs ws is = map-id xs ∙ is
 
 -- how many words there are
 pub made_count : {A : Type 0} (carried : A → ℕ) (n : ℕ) (f : ℕ → ℕ) (words : List A) → map carried words ≡ each f n → length words ≡ n

@@ -2,7 +2,8 @@
 //!
 //! These are the places at which words of shares are computed; all else hands words on.
 
-ghost use Rattle.std.specs.Prelude.{◌≡◌, ◌+◌, ◌-◌, ◌^◌, ◌<◌, ◌≤◌, [], ◌∷◌, ◌++◌, length, Some, None, refl};
+ghost use Rattle.std.specs.Prelude.{◌≡◌, ◌+◌, ◌-◌, ◌^◌, ◌<◌, ◌≤◌, [], ◌∷◌, ◌++◌, length, Some, None};
+ghost use Rattle.std.proofs.Common.{rules};
 ghost use Rattle.mask_gadget.specs.Wiring.{told_more};
 
 use crate::Wires;
@@ -51,7 +52,7 @@ impl Wiring for Unheard {
         a
     }
 
-    ghost small = { Prim.search Rattle.std.proofs.Common.rules };
+    ghost small = { Prim.search rules };
 }
 
 // The word, which is kept behind the others.
@@ -103,5 +104,5 @@ impl Wiring for ArrayVec<u64, 204> {
         kept(self, a)
     }
 
-    ghost small = { Prim.search Rattle.std.proofs.Common.rules };
+    ghost small = { Prim.search rules };
 }

@@ -23,9 +23,13 @@ mix_row-requires g c =
     let within = row_within g.row.N c.loop-i.i (omega arith) in
     let all = length-pairs g.row.N in
     let same = ap length c.loop-i.invariant.at.same in
-    let used = c.loop-i.invariant.at.used in
-    (square_fits g.row.N _ c.requires.few g.met.W.Wiring.small, (row_fits g.row.N _ c.requires.few g.met.W.Wiring.small,
-    (c.requires.few, (omega arith, (omega arith, (omega arith, c.loop-i.invariant.square))))))
+    let used = c.loop-i.invariant.at.used in (
+      square_fits g.row.N _ c.requires.few g.met.W.Wiring.small,
+      (
+        row_fits g.row.N _ c.requires.few g.met.W.Wiring.small,
+        (c.requires.few, (omega arith, (omega arith, (omega arith, c.loop-i.invariant.square)))),
+      ),
+    )
 
 pub loop-i-preserved : goal.loop-i-preserved
 loop-i-preserved g c =

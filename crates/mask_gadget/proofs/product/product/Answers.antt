@@ -16,15 +16,23 @@ products-terms-requires g c =
 
 pub mix-requires : goal.mix-requires
 mix-requires g c =
-    let count = product_count g.row.N in
-    (square_fits g.row.N _ c.requires.few g.met.W.Wiring.small, (row_fits g.row.N _ c.requires.few g.met.W.Wiring.small,
-    (c.requires.few, (c.requires.coins, (omega arith, c.products-terms.ensures.square)))))
+    let count = product_count g.row.N in (
+      square_fits g.row.N _ c.requires.few g.met.W.Wiring.small,
+      (
+        row_fits g.row.N _ c.requires.few g.met.W.Wiring.small,
+        (c.requires.few, (c.requires.coins, (omega arith, c.products-terms.ensures.square))),
+      ),
+    )
 
 pub sum_rows-requires : goal.sum_rows-requires
 sum_rows-requires g c =
-    let count = product_count g.row.N in
-    (square_fits g.row.N _ c.requires.few g.met.W.Wiring.small, (row_fits g.row.N _ c.requires.few g.met.W.Wiring.small,
-    (c.requires.some, (c.requires.few, (omega arith, c.mix.ensures.square)))))
+    let count = product_count g.row.N in (
+      square_fits g.row.N _ c.requires.few g.met.W.Wiring.small,
+      (
+        row_fits g.row.N _ c.requires.few g.met.W.Wiring.small,
+        (c.requires.some, (c.requires.few, (omega arith, c.mix.ensures.square))),
+      ),
+    )
 
 pub returns-clause-shares : goal.returns-clause-shares
 returns-clause-shares g c =
