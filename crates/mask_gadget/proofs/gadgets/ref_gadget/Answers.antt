@@ -1,4 +1,4 @@
-use Rattle.std.proofs.Common.{◌≡◌, List, ℕ, [], ◌∷◌, length, refl, sym, ap, ◌∙◌, arith}
+use Rattle.std.proofs.Common.{List, ℕ, [], ◌∷◌, length, refl, sym, ap, ◌∙◌, arith}
 use Rattle.mask_circuit.specs.declared.gates.Gate.TheVariants.{Ref}
 use Rattle.mask_circuit.specs.Ring.{words}
 use Rattle.mask_circuit.specs.Wires.{gate_out, gate_wires}

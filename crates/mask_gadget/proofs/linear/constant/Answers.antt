@@ -1,5 +1,4 @@
-use Rattle.std.proofs.Common.{◌≡◌, ℕ, ◌<◌, length, map, refl, arith, ◌∙◌, ap, sym, ne_eqb}
-use Rattle.std.proofs.lemmas.List.{length-replicate}
+use Rattle.std.proofs.Common.{refl, arith, ◌∙◌, ap, sym, ne_eqb}
 use Rattle.mask_circuit.specs.Ring.{words}
 use Rattle.mask_circuit.specs.Wires.{on_first}
 use Rattle.mask_gadget.specs.Wiring.{told_more}

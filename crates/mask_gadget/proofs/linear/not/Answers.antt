@@ -1,4 +1,4 @@
-use Rattle.std.proofs.Common.{◌≡◌, ℕ, ◌+◌, ◌-◌, ◌^◌, ◌<◌, ◌==◌, cond, [], ◌∷◌, length, map, get_or, bit_xor, refl, arith, ◌∙◌, ap, sym, ne_eqb}
+use Rattle.std.proofs.Common.{ℕ, ◌-◌, ◌^◌, ◌<◌, ◌==◌, cond, [], ◌∷◌, length, map, get_or, bit_xor, refl, arith, ◌∙◌, ap, sym, ne_eqb}
 use Rattle.mask_circuit.specs.declared.gates.Gate.TheVariants.{Not}
 use Rattle.mask_circuit.specs.Ring.{words}
 use Rattle.mask_circuit.specs.Wires.{Share, gate_wire}

@@ -1,4 +1,4 @@
-use Rattle.std.proofs.Common.{◌≡◌, ℕ, ◌<◌, [], ◌∷◌, length, map, get_or, bit_xor, arith, ◌∙◌, ap, ap₂, sym}
+use Rattle.std.proofs.Common.{◌<◌, [], ◌∷◌, length, map, get_or, bit_xor, arith, ◌∙◌, ap, ap₂, sym}
 use Rattle.mask_circuit.specs.declared.gates.Gate.TheVariants.{Xor}
 use Rattle.mask_circuit.specs.Ring.{words}
 use Rattle.mask_circuit.specs.Wires.{Share, gate_wire}

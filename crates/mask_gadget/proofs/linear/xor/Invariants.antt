@@ -1,4 +1,4 @@
-use Rattle.std.proofs.Common.{◌≡◌, ◌+◌, ◌≤◌, map, get_or, bit_xor}
+use Rattle.std.proofs.Common.{◌+◌, ◌≤◌, map, get_or, bit_xor}
 use Rattle.mask_gadget.proofs.Telling.{MadeTo}
 use Rattle.mask_gadget.proofs.linear.xor.Given as goal
 

@@ -1,8 +1,7 @@
-use Rattle.std.proofs.Common.{◌≡◌, ℕ, suc, ◌+◌, ◌-◌, length, refl, arith, ◌∙◌, ap, add-one}
+use Rattle.std.proofs.Common.{◌≡◌, suc, ◌+◌, ◌-◌, length, refl, arith, ap, add-one}
 use Rattle.mask_circuit.specs.Ring.{words}
 use Rattle.mask_circuit.specs.Wires.{product_wire}
-use Rattle.mask_gadget.specs.Wiring.{cell}
-use Rattle.mask_gadget.specs.Gadgets.{Mixed, pair_coin, pair_row}
+use Rattle.mask_gadget.specs.Gadgets.{pair_coin, pair_row}
 use Rattle.mask_laws.proofs.PairNumbers.{length-pairs, pairs_before-all, pairs_before-more}
 use Rattle.mask_gadget.proofs.Pairs.{row_within, next_row}
 use Rattle.mask_gadget.proofs.Sizes.{row_fits, square_fits}

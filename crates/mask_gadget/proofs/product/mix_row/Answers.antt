@@ -1,9 +1,9 @@
-use Rattle.std.proofs.Common.{◌≡◌, ◌≢◌, ℕ, suc, ◌+◌, ◌-◌, ◌<◌, [], ◌∷◌, length, map, get_or, bit_xor, bit_and, refl, arith, ◌∙◌, ap, sym, add-one}
+use Rattle.std.proofs.Common.{◌≡◌, ℕ, suc, ◌+◌, ◌-◌, ◌<◌, [], length, get_or, bit_xor, refl, arith, ◌∙◌, ap, add-one}
 use Rattle.mask_circuit.specs.Ring.{words}
-use Rattle.mask_circuit.specs.Wires.{Shares, product_wire}
+use Rattle.mask_circuit.specs.Wires.{product_wire}
 use Rattle.mask_tape.specs.Drawn.{Drawn}
 use Rattle.mask_gadget.specs.Wiring.{cell}
-use Rattle.mask_gadget.specs.Gadgets.{IsAtRow, Mixed, pair_coin, pair_names}
+use Rattle.mask_gadget.specs.Gadgets.{IsAtRow, pair_coin, pair_names}
 use Rattle.mask_gadget.proofs.Cells.{both_square, upper_written, lower_written, others_kept}
 use Rattle.mask_gadget.proofs.Mixing.{pair_mixed, pair_terms, row_mixed}
 use Rattle.mask_gadget.proofs.Pairs.{coin_next, column_more}

@@ -1,8 +1,8 @@
-use Rattle.std.proofs.Common.{◌≡◌, ℕ, ◌+◌, ◌-◌, ◌*◌, [], ◌∷◌, length, map, get_or, arith, ◌∙◌, sym}
+use Rattle.std.proofs.Common.{ℕ, map, get_or, arith, ◌∙◌, sym}
 use Rattle.mask_circuit.specs.Ring.{words}
 use Rattle.mask_circuit.specs.Wires.{Share, product_wire}
 use Rattle.mask_gadget.specs.Wiring.{cell}
-use Rattle.mask_gadget.specs.Gadgets.{Mixed, pair_coin}
+use Rattle.mask_gadget.specs.Gadgets.{pair_coin}
 use Rattle.mask_gadget.proofs.Made.{map-each}
 use Rattle.mask_gadget.proofs.Mixing.{none_mixed}
 use Rattle.mask_gadget.proofs.Products.{product_count, all_told}

@@ -1,4 +1,4 @@
-use Rattle.std.proofs.Common.{◌≡◌, ◌+◌, ◌≤◌, map, get_or, bit_and}
+use Rattle.std.proofs.Common.{◌+◌, ◌≤◌, map, get_or, bit_and}
 use Rattle.mask_gadget.proofs.Telling.{MadeTo}
 use Rattle.mask_gadget.proofs.product.row_of_products.Given as goal
 

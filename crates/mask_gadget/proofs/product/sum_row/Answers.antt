@@ -1,8 +1,8 @@
-use Rattle.std.proofs.Common.{◌≡◌, ℕ, ◌<◌, length, map, get_or, bit_xor, arith, ◌∙◌, ap, sym, add-one}
+use Rattle.std.proofs.Common.{◌≡◌, ℕ, ◌<◌, length, map, get_or, bit_xor, arith, ◌∙◌, ap, add-one}
 use Rattle.mask_circuit.specs.Ring.{words}
 use Rattle.mask_circuit.specs.Wires.{other, row_sum}
 use Rattle.mask_gadget.proofs.Products.{partner_more}
-use Rattle.mask_gadget.proofs.Rows.{partial, partial-end, other-below}
+use Rattle.mask_gadget.proofs.Rows.{partial-end, other-below}
 use Rattle.mask_gadget.proofs.Telling.{told_more-none, told_each, word_read}
 use Rattle.mask_gadget.proofs.product.sum_row.Goals as goal
 

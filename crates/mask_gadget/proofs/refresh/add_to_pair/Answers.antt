@@ -1,4 +1,4 @@
-use Rattle.std.proofs.Common.{◌≡◌, ℕ, ◌<◌, List, ◌∷◌, [], length, map, get_or, set, bit_xor, arith, ◌∙◌, ap, ap₂}
+use Rattle.std.proofs.Common.{ℕ, ◌∷◌, [], arith, ◌∙◌, ap, ap₂}
 use Rattle.mask_gadget.specs.Wiring.{told_more}
 use Rattle.mask_gadget.proofs.Refreshes.{first_updated, second_updated, both_updated}
 use Rattle.mask_gadget.proofs.Telling.{told_then}

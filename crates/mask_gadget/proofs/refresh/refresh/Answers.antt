@@ -1,4 +1,4 @@
-use Rattle.std.proofs.Common.{◌≡◌, ℕ, suc, ◌+◌, ◌-◌, ◌*◌, length, map, get_or, refl, arith, ◌∙◌, ap, sym}
+use Rattle.std.proofs.Common.{ℕ, suc, ◌-◌, length, map, refl, arith, ◌∙◌, ap, sym}
 use Rattle.std.proofs.lemmas.List.{length-map}
 use Rattle.mask_circuit.specs.Ring.{words}
 use Rattle.mask_circuit.specs.Wires.{Wire, Share, refresh_wire}
