@@ -5,7 +5,7 @@ use Rattle.std.proofs.lemmas.List.Elements.{All-nil, All-cons}
 use Rattle.std.specs.List.{slice_index_or}
 use Rattle.mask_circuit.specs.declared.gates.Gate.{Gate}
 use Rattle.mask_circuit.specs.declared.gates.Gate.TheVariants.{And, Ref}
-use Rattle.mask_circuit.specs.Netlist.{Netlist, IsCircuit, value_count}
+use Rattle.mask_circuit.specs.Netlist.{Netlist, IsWellFormed, value_count}
 use Rattle.mask_circuit.specs.Wires.{Shares, each}
 use Rattle.mask_circuit.specs.Acceptance.{gate_at, Uses, IsAccepted, IsFenced}
 use Rattle.mask_laws.specs.Clashes.{reach, clash}
@@ -59,13 +59,11 @@ unfolding example refreshed multiplied listed
 example_hits = refl
 
 -- The run is a strong one: its circuits are strong, and no call takes a source twice.
-refreshed_circuit : IsCircuit refreshed.circuit
+refreshed_formed : IsWellFormed refreshed.circuit
 unfolding refreshed
-refreshed_circuit = record {
+refreshed_formed = record {
   gates = (omega arith, tt);
   outputs = All-cons (λ u. u < 2) 1 [] (omega arith) (All-nil (λ u. u < 2));
-  few_values = omega arith;
-  few_outputs = omega arith;
 }
 
 refreshed_unused : (v : ℕ) → Uses 1 (gate_at refreshed.circuit v) → ⊥
@@ -79,13 +77,11 @@ unfolding refreshed
 refreshed_fenced zero lt = record { is_refresh = (0, refl); is_unused = refreshed_unused; is_first = λ i l. absurd (omega arith) }
 refreshed_fenced (suc k) lt = absurd (omega arith)
 
-multiplied_circuit : IsCircuit multiplied.circuit
+multiplied_formed : IsWellFormed multiplied.circuit
 unfolding multiplied
-multiplied_circuit = record {
+multiplied_formed = record {
   gates = ((omega arith, omega arith), (omega arith, tt));
   outputs = All-cons (λ u. u < 4) 3 [] (omega arith) (All-nil (λ u. u < 4));
-  few_values = omega arith;
-  few_outputs = omega arith;
 }
 
 multiplied_unused : (v : ℕ) → Uses 3 (gate_at multiplied.circuit v) → ⊥
@@ -103,11 +99,11 @@ multiplied_fenced (suc k) lt = absurd (omega arith)
 
 refreshed_accepted : IsAccepted refreshed.circuit
 unfolding refreshed reach clash
-refreshed_accepted = (clash_decides refreshed.circuit refreshed_circuit).0.0 refl
+refreshed_accepted = (clash_decides refreshed.circuit refreshed_formed).0.0 refl
 
 multiplied_accepted : IsAccepted multiplied.circuit
 unfolding multiplied reach clash
-multiplied_accepted = (clash_decides multiplied.circuit multiplied_circuit).0.0 refl
+multiplied_accepted = (clash_decides multiplied.circuit multiplied_formed).0.0 refl
 
 multiplied_once : (u v : ℕ) → u < v → v < 2 → source_at multiplied u ≡ source_at multiplied v → IsPublic (source_at multiplied u)
 unfolding multiplied
@@ -120,7 +116,7 @@ example_strong : IsStrongRun example
 unfolding example refreshed multiplied
 example_strong = (
   record {
-    circuit = refreshed_circuit;
+    formed = refreshed_formed;
     strong = (refreshed_accepted, refreshed_fenced);
     sources = refl;
     there = All-cons (IsThere []) (Variable 0) [] tt (All-nil (IsThere []));
@@ -128,7 +124,7 @@ example_strong = (
   },
   (
     record {
-      circuit = multiplied_circuit;
+      formed = multiplied_formed;
       strong = (multiplied_accepted, multiplied_fenced);
       sources = refl;
       there = All-cons (IsThere (1 ∷ [])) (Output 0 0) (Variable 1 ∷ []) (omega arith, omega arith)

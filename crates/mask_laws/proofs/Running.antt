@@ -95,7 +95,7 @@ inputs_agree call calls N j P counts x y a b two is agree v i within lt needed =
     agree (source_at call v) (All-get_or (IsThere counts) call.sources v (Public false) (omega (arith, is.sources)) is.there) i lt
     (or_left (demanded_by call own (source_at call v) i) (demanded calls N (places_behind (call_wires N call) P) (source_at call v) i)
     (demanded_by-all call own v i within
-    (sym (need_with_outputs call.circuit N (places_within (call_wires N call) P) (asked_of call calls N j P) two is.circuit is.strong v i within) ∙ needed)))
+    (sym (need_with_outputs call.circuit N (places_within (call_wires N call) P) (asked_of call calls N j P) two is.formed is.strong v i within) ∙ needed)))
 
 -- lists that are the same have the same first element and the same rest
 same_cons : {A : Type 0} (a b : A) (xs ys : List A) → a ∷ xs ≡ b ∷ ys → (a ≡ b) × (xs ≡ ys)
@@ -132,8 +132,8 @@ wires_kept call calls N j P counts s s' own two are few agree long p h lt =
     let here : Contains Q p = Contains-append_left (places_within (call_wires N call) P) (output_places c N (asked_of call calls N j P)) p
     (Contains-filter (λ q. nat_lt q (call_wires N call)) P p h (lt-ltb p (call_wires N call) lt)) in
     same_at (λ q. slice_index_or (wires bits c N s own) q false) (λ q. slice_index_or (wires bits c N s' (call_shift call calls N j P s s' own)) q false) Q p
-    (sym (shift_keeps gate_keeps c N s s' Q own two are.0.circuit.gates (asked_within c N (places_within (call_wires N call) P) (asked_of call calls N j P) two are.0.circuit allowed)
-    (asked_fits c N (places_within (call_wires N call) P) (asked_of call calls N j P) two are.0.circuit are.0.strong allowed) agree long).0) here
+    (sym (shift_keeps gate_keeps c N s s' Q own two are.0.formed.gates (asked_within c N (places_within (call_wires N call) P) (asked_of call calls N j P) two are.0.formed allowed)
+    (asked_fits c N (places_within (call_wires N call) P) (asked_of call calls N j P) two are.0.formed are.0.strong allowed) agree long).0) here
 
 -- .. and so do the shares of its outputs that are asked for
 outputs_kept : (call : Call) (calls : List Call) (N j : ℕ) (P counts : List ℕ) (s s' : ℕ → Shares Bool) (own : List Bool) → 2 ≤ N → AreStrongCalls counts (call ∷ calls) → length P < N →
@@ -149,12 +149,12 @@ outputs_kept call calls N j P counts s s' own two are few agree long k i lt belo
     let Q = call_probes call calls N j P in
     let zero_k : 0 + k ≡ k = omega arith in
     let here : Contains (probes_at c N Q) (output_at c k, Share i) =
-    subst (λ (S : List Place). Contains S (output_at c k, Share i)) (sym (asked_names c N within O two are.0.circuit))
+    subst (λ (S : List Place). Contains S (output_at c k, Share i)) (sym (asked_names c N within O two are.0.formed))
     (Contains-append_right (probes_at c N within) (output_names N O c.outputs 0) (output_at c k, Share i)
     (output_names-all N O c.outputs 0 k i lt below (ap (λ z. O z i) zero_k ∙ asked))) in
     let demanded = need_from-probed (probes_at c N Q) c.gates c.inputs (output_at c k) i (probed_shares-from_Contains (probes_at c N Q) (output_at c k) i here) in
-    sym ((shift_keeps gate_keeps c N s s' Q own two are.0.circuit.gates (asked_within c N within O two are.0.circuit allowed)
-    (asked_fits c N within O two are.0.circuit are.0.strong allowed) agree long).1 (output_at c k) i (are.0.circuit.outputs k 0 lt) below demanded)
+    sym ((shift_keeps gate_keeps c N s s' Q own two are.0.formed.gates (asked_within c N within O two are.0.formed allowed)
+    (asked_fits c N within O two are.0.formed are.0.strong allowed) agree long).1 (output_at c k) i (are.0.formed.outputs k 0 lt) below demanded)
 
 -- the outputs of the call itself ..
 with_new : (N j : ℕ) (call : Call) (s : ℕ → Shares Bool) (own : List Bool) (a : Outputs) (l k i : ℕ) → l ≡ j →

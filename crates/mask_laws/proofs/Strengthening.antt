@@ -7,7 +7,7 @@ use Rattle.std.proofs.lemmas.List.Folds.{list_any-append}
 use Rattle.std.proofs.lemmas.Option.{none-some, same_Some}
 use Rattle.mask_circuit.specs.declared.gates.Gate.{Gate}
 use Rattle.mask_circuit.specs.declared.gates.Gate.TheVariants.{Zero, One, Xor, Not, And, Ref}
-use Rattle.mask_circuit.specs.Netlist.{Netlist, IsCircuit, AreGates}
+use Rattle.mask_circuit.specs.Netlist.{Netlist, IsWellFormed, AreGates}
 use Rattle.mask_circuit.specs.Wires.{Wire, Share}
 use Rattle.mask_circuit.specs.Expansion.{Place, names, wire_count}
 use Rattle.mask_circuit.specs.Probing.{same_wire, size, HasAtMost, IsInner, output_places}
@@ -166,19 +166,19 @@ outputs_room c N P O fenced few room m = go (size_cases N (probed_shares S m))
         omega arith
 
 -- the wires that are probed or asked for, by name
-pub asked_names : (c : Netlist) (N : ℕ) (P : List ℕ) (O : ℕ → ℕ → Bool) → 2 ≤ N → IsCircuit c →
+pub asked_names : (c : Netlist) (N : ℕ) (P : List ℕ) (O : ℕ → ℕ → Bool) → 2 ≤ N → IsWellFormed c →
     probes_at c N (P ++ output_places c N O) ≡ probes_at c N P ++ output_names N O c.outputs 0
 asked_names c N P O two is =
     map-append (λ p. slice_index_or (names c N) p (0, Share 0)) P (output_places c N O)
     ∙ ap (λ S. probes_at c N P ++ S) (output_places-names c N O two is.outputs)
 
 -- they are wires of the circuit
-pub asked_within : (c : Netlist) (N : ℕ) (P : List ℕ) (O : ℕ → ℕ → Bool) → 2 ≤ N → IsCircuit c → AreAllowed c N P O →
+pub asked_within : (c : Netlist) (N : ℕ) (P : List ℕ) (O : ℕ → ℕ → Bool) → 2 ≤ N → IsWellFormed c → AreAllowed c N P O →
     All (λ p. p < wire_count c N) (P ++ output_places c N O)
 asked_within c N P O two is allowed = All-append (λ p. p < wire_count c N) P (output_places c N O) allowed.wires (output_places-below c N O two is.outputs)
 
 -- they fit
-pub asked_fits : (c : Netlist) (N : ℕ) (P : List ℕ) (O : ℕ → ℕ → Bool) → 2 ≤ N → IsCircuit c → IsStrong c → AreAllowed c N P O →
+pub asked_fits : (c : Netlist) (N : ℕ) (P : List ℕ) (O : ℕ → ℕ → Bool) → 2 ≤ N → IsWellFormed c → IsStrong c → AreAllowed c N P O →
     Fits c N (probes_at c N (P ++ output_places c N O))
 asked_fits c N P O two is strong allowed =
     let size_is : length (probes_at c N P) ≡ length P = length-map P (λ p. slice_index_or (names c N) p (0, Share 0)) in
@@ -188,14 +188,14 @@ asked_fits c N P O two is strong allowed =
     (AreGatesAt-all c) is.gates)
 
 -- and need no more of the inputs than the probes alone
-pub need_with_outputs : (c : Netlist) (N : ℕ) (P : List ℕ) (O : ℕ → ℕ → Bool) → 2 ≤ N → IsCircuit c → IsStrong c → (v i : ℕ) → v < c.inputs →
+pub need_with_outputs : (c : Netlist) (N : ℕ) (P : List ℕ) (O : ℕ → ℕ → Bool) → 2 ≤ N → IsWellFormed c → IsStrong c → (v i : ℕ) → v < c.inputs →
     need c N (P ++ output_places c N O) v i ≡ need c N P v i
 need_with_outputs c N P O two is strong v i lt =
     ap (λ S. need_from S c.gates c.inputs v i) (asked_names c N P O two is)
     ∙ inputs_asked c (probes_at c N P) (output_names N O c.outputs 0) v i (outputs_refreshed c N O strong.1) lt
 
 -- the need of few wires has few shares of each input
-pub need_small : (c : Netlist) (N : ℕ) (P : List ℕ) → IsCircuit c → IsStrong c → HasAtMost c N (need c N P) (length P)
+pub need_small : (c : Netlist) (N : ℕ) (P : List ℕ) → IsWellFormed c → IsStrong c → HasAtMost c N (need c N P) (length P)
 need_small c N P is strong v lt = let few = accepted_needs_few c N P is.gates strong.0 v (Input lt) in omega arith
 
 -- so they are simulated from the need of the probes alone

@@ -2,7 +2,7 @@
 -- observer sees of the wires of all calls together.
 use Rattle.std.specs.Prelude.{◌≡◌, ℕ, suc, ◌-◌, ◌<◌, ◌≤◌, Bool, true, false, cond, not, ◌&&◌, ◌||◌, ◌==◌, nat_lt, List, [], ◌∷◌, ◌++◌, map, length, take, drop, All, sum_by, slice_index, slice_index_or}
 use Rattle.std.specs.List.{filter, flat_map, list_any}
-use Rattle.mask_circuit.specs.Netlist.{Netlist, IsCircuit}
+use Rattle.mask_circuit.specs.Netlist.{Netlist, IsWellFormed}
 use Rattle.mask_circuit.specs.Value.{xor}
 use Rattle.mask_circuit.specs.Ring.{bits}
 use Rattle.mask_circuit.specs.Wires.{Shares, each, on_first}
@@ -120,7 +120,7 @@ IsThere counts (Output j k) = (j < length counts) × (k < slice_index counts j)
 
 -- a call of a strong circuit, whose sources stand and of which none is taken twice unless it is public
 pub record IsStrongCall (counts : List ℕ) (call : Call) : Type 0 where
-  pub circuit : IsCircuit call.circuit
+  pub formed : IsWellFormed call.circuit
   pub strong : IsStrong call.circuit
   pub sources : length call.sources ≡ call.circuit.inputs
   pub there : All (IsThere counts) call.sources
