@@ -11,6 +11,7 @@ pub mod Flips
 pub mod FreshBits
 pub mod GateExamples
 pub mod Gates
+pub mod Hiding
 pub mod Keeping
 pub mod LocalNumbers
 pub mod Lookup
@@ -30,6 +31,7 @@ pub mod RunNeeds
 pub mod Running
 pub mod Seen
 pub mod Sets
+pub mod Sharings
 pub mod Shifts
 pub mod Simulation
 pub mod Strengthening

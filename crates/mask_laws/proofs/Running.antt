@@ -102,7 +102,7 @@ same_cons : {A : Type 0} (a b : A) (xs ys : List A) → a ∷ xs ≡ b ∷ ys �
 same_cons a b xs ys e = (cc, cc)
 
 -- two functions that make one list of a list agree at its elements
-same_at : {A B : Type 0} (f g : A → B) (xs : List A) (x : A) → map f xs ≡ map g xs → Contains xs x → f x ≡ g x
+pub same_at : {A B : Type 0} (f g : A → B) (xs : List A) (x : A) → map f xs ≡ map g xs → Contains xs x → f x ≡ g x
 same_at f g [] x e h = absurd (none_in_nil x h)
 same_at f g (y ∷ xs) x e h = go (Contains-cons_cases y xs x h) (λ rest. same_at f g xs x (same_cons (f y) (g y) (map f xs) (map g xs) e).1 rest)
   where
@@ -111,7 +111,7 @@ same_at f g (y ∷ xs) x e h = go (Contains-cons_cases y xs x h) (λ rest. same_
     go (inr rest) up = up rest
 
 -- an element that passes is among those that pass
-Contains-filter : (test : ℕ → Bool) (xs : List ℕ) (x : ℕ) → Contains xs x → test x ≡ true → Contains (filter test xs) x
+pub Contains-filter : (test : ℕ → Bool) (xs : List ℕ) (x : ℕ) → Contains xs x → test x ≡ true → Contains (filter test xs) x
 Contains-filter test [] x h e = absurd (none_in_nil x h)
 Contains-filter test (y ∷ xs) x h e = go (test y) refl (Contains-cons_cases y xs x h) (λ rest. Contains-filter test xs x rest e)
   where
@@ -219,7 +219,7 @@ wires_parts call calls N j x a own rest long =
     (take_front (call_draws N call) own rest long) (drop_front (call_draws N call) own rest long)
 
 -- a circuit has as many wires whatever they carry
-length-wires : (c : Netlist) (N : ℕ) (s : ℕ → Shares Bool) (r : List Bool) → length (wires bits c N s r) ≡ wire_count c N
+pub length-wires : (c : Netlist) (N : ℕ) (s : ℕ → Shares Bool) (r : List Bool) → length (wires bits c N s r) ≡ wire_count c N
 length-wires c N s r = length-map (names c N) (λ p. expand bits c N s r p.0 p.1)
 
 -- two lists that agree before n and behind it agree at every place
@@ -260,7 +260,7 @@ shift_run-keeps (call ∷ calls) N j P counts x y a b r two are few number agree
     ∙ ap (λ ws. slice_index_or ws p false) (sym (wires_parts call calls N j y b new _ new_long))
 
 -- two functions that agree at the elements of a list make the same list
-map_agree : {A B : Type 0} (f g : A → B) (xs : List A) → ((x : A) → Contains xs x → f x ≡ g x) → map f xs ≡ map g xs
+pub map_agree : {A B : Type 0} (f g : A → B) (xs : List A) → ((x : A) → Contains xs x → f x ≡ g x) → map f xs ≡ map g xs
 map_agree f g [] h = refl
 map_agree f g (x ∷ xs) h = ap₂ (λ y ys. y ∷ ys) (h x (Contains-first x xs)) (map_agree f g xs (λ y k. h y (Contains-later x xs y k)))
 

@@ -4,6 +4,7 @@ pub mod Gadgets
 pub mod Names
 pub mod Needs
 pub mod Numbering
+pub mod Privacy
 pub mod Runs
 pub mod Sharing
 pub mod Strong

@@ -8,6 +8,7 @@ use Rattle.mask_circuit.specs.Ring.{bits}
 use Rattle.mask_circuit.specs.Wires.{Shares, each, on_first}
 use Rattle.mask_circuit.specs.Expansion.{shares_of, expand, draws, wire_count, wires}
 use Rattle.mask_circuit.specs.Probing.{same_bits, sum_over_tapes, ShareSets, size}
+use Rattle.mask_circuit.specs.Privacy.{sum_over_sharings}
 use Rattle.mask_circuit.specs.Need.{ShareSet, need}
 use Rattle.mask_circuit.specs.Acceptance.{IsStrong, output_at}
 
@@ -104,6 +105,16 @@ run_hits calls N x P v = sum_over_tapes (run_draws calls N) (λ r. cond (same_bi
 abbrev pub IsRunSimulated : List Call → ℕ → List ℕ → ShareSets → Type 0
 IsRunSimulated calls N P I = (x y : ℕ → Shares Bool) →
     ((v i : ℕ) → i < N → I v i ≡ true → x v i ≡ y v i) → (v : List Bool) → run_hits calls N x P v ≡ run_hits calls N y P v
+
+-- how many sharings of the bits x of the variables, each with all tapes, show just the bits v on the wires P
+abbrev pub private_run_hits : List Call → ℕ → List Bool → List ℕ → List Bool → ℕ
+private_run_hits calls N x P v = sum_over_sharings N x (λ shares. run_hits calls N shares P v)
+
+-- Privacy of a run: what any t of its wires show, t at most N - 1, has over all sharings and tapes the same distribution
+-- for any two lists of bits of the variables. Public bits are part of the calls.
+abbrev pub IsPrivateRun : List Call → ℕ → Type 0
+IsPrivateRun calls N = (P : List ℕ) → length P < N → (x y : List Bool) → length x ≡ length y →
+    (v : List Bool) → private_run_hits calls N x P v ≡ private_run_hits calls N y P v
 
 -- STRONG RUNS
 

@@ -6,5 +6,6 @@
 pub mod bridges;
 pub mod circuits;
 pub mod gadgets;
+pub mod privacy;
 pub mod runs;
 pub mod strong;
