@@ -21,7 +21,7 @@ use Rattle.mask_laws.proofs.Gates.{gate_keeps}
 use Rattle.mask_laws.proofs.Probes.{probed_shares-from_Contains, need_from-probed}
 use Rattle.mask_laws.proofs.Seen.{shift_keeps, shift_reorders}
 use Rattle.mask_laws.proofs.Shifts.{take_front, drop_front, length-shift_from}
-use Rattle.mask_laws.proofs.Strengthening.{need_with_outputs, asked_names, asked_within, asked_fits}
+use Rattle.mask_laws.proofs.Strengthening.{strong_masked, need_with_outputs, asked_names, asked_within, asked_fits}
 use Rattle.mask_laws.proofs.Tapes.{sum_over_tapes-same, sum_over_tapes-add}
 
 -- THE SHIFT
@@ -95,7 +95,7 @@ inputs_agree call calls N j P counts x y a b two is agree v i within lt needed =
     agree (source_at call v) (All-get_or (IsThere counts) call.sources v (Public false) (omega (arith, is.sources)) is.there) i lt
     (or_left (demanded_by call own (source_at call v) i) (demanded calls N (places_behind (call_wires N call) P) (source_at call v) i)
     (demanded_by-all call own v i within
-    (sym (need_with_outputs call.circuit N (places_within (call_wires N call) P) (asked_of call calls N j P) two is.formed is.strong v i within) ∙ needed)))
+    (sym (need_with_outputs call.circuit N (places_within (call_wires N call) P) (asked_of call calls N j P) two is.formed (strong_masked call.circuit is.strong) v i within) ∙ needed)))
 
 -- lists that are the same have the same first element and the same rest
 same_cons : {A : Type 0} (a b : A) (xs ys : List A) → a ∷ xs ≡ b ∷ ys → (a ≡ b) × (xs ≡ ys)
@@ -133,7 +133,7 @@ wires_kept call calls N j P counts s s' own two are few agree long p h lt =
     (Contains-filter (λ q. nat_lt q (call_wires N call)) P p h (lt-ltb p (call_wires N call) lt)) in
     same_at (λ q. slice_index_or (wires bits c N s own) q false) (λ q. slice_index_or (wires bits c N s' (call_shift call calls N j P s s' own)) q false) Q p
     (sym (shift_keeps gate_keeps c N s s' Q own two are.0.formed.gates (asked_within c N (places_within (call_wires N call) P) (asked_of call calls N j P) two are.0.formed allowed)
-    (asked_fits c N (places_within (call_wires N call) P) (asked_of call calls N j P) two are.0.formed are.0.strong allowed) agree long).0) here
+    (asked_fits c N (places_within (call_wires N call) P) (asked_of call calls N j P) two are.0.formed (strong_masked c are.0.strong) allowed) agree long).0) here
 
 -- .. and so do the shares of its outputs that are asked for
 outputs_kept : (call : Call) (calls : List Call) (N j : ℕ) (P counts : List ℕ) (s s' : ℕ → Shares Bool) (own : List Bool) → 2 ≤ N → AreStrongCalls counts (call ∷ calls) → length P < N →
@@ -154,7 +154,7 @@ outputs_kept call calls N j P counts s s' own two are few agree long k i lt belo
     (output_names-all N O c.outputs 0 k i lt below (ap (λ z. O z i) zero_k ∙ asked))) in
     let demanded = need_from-probed (probes_at c N Q) c.gates c.inputs (output_at c k) i (probed_shares-from_Contains (probes_at c N Q) (output_at c k) i here) in
     sym ((shift_keeps gate_keeps c N s s' Q own two are.0.formed.gates (asked_within c N within O two are.0.formed allowed)
-    (asked_fits c N within O two are.0.formed are.0.strong allowed) agree long).1 (output_at c k) i (are.0.formed.outputs k 0 lt) below demanded)
+    (asked_fits c N within O two are.0.formed (strong_masked c are.0.strong) allowed) agree long).1 (output_at c k) i (are.0.formed.outputs k 0 lt) below demanded)
 
 -- the outputs of the call itself ..
 with_new : (N j : ℕ) (call : Call) (s : ℕ → Shares Bool) (own : List Bool) (a : Outputs) (l k i : ℕ) → l ≡ j →
