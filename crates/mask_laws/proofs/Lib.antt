@@ -26,6 +26,7 @@ pub mod Probes
 pub mod Products
 pub mod Reaching
 pub mod Refreshes
+pub mod Refuting
 pub mod RunExamples
 pub mod RunNeeds
 pub mod Running

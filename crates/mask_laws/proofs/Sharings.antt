@@ -18,7 +18,7 @@ use Rattle.mask_laws.proofs.Tapes.{sum_over_tapes-same, sum_over_tapes-add, sum_
 -- ONE BIT
 
 -- a set of fewer than n of the numbers below n leaves one out
-left_out : (n : ℕ) (set : ShareSet) → size n set < n → (i : ℕ) × (i < n) × (set i ≡ false)
+pub left_out : (n : ℕ) (set : ShareSet) → size n set < n → (i : ℕ) × (i < n) × (set i ≡ false)
 left_out zero set few = absurd (omega arith)
 left_out (suc n) set few = go (set n) refl (left_out n set)
   where

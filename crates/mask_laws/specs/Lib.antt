@@ -5,6 +5,7 @@ pub mod Names
 pub mod Needs
 pub mod Numbering
 pub mod Privacy
+pub mod Refutations
 pub mod Runs
 pub mod Sharing
 pub mod Strong

@@ -7,5 +7,6 @@ pub mod bridges;
 pub mod circuits;
 pub mod gadgets;
 pub mod privacy;
+pub mod refutations;
 pub mod runs;
 pub mod strong;
