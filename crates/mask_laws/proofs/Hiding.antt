@@ -1,5 +1,5 @@
 -- Accepted circuits and strong runs show nothing of the bits that are shared.
-use Rattle.std.proofs.Common.{◌≡◌, ℕ, pred, ◌+◌, ◌*◌, ◌<◌, ◌≤◌, ◌⊎◌, inl, inr, Bool, false, cond, nat_lt, List, ◌++◌, length, take, drop, Contains, slice_index_or, refl, ap, ap₂, sym, ◌∙◌, subst, arith}
+use Rattle.std.proofs.Common.{◌≡◌, ℕ, pred, ◌+◌, ◌*◌, ◌<◌, ◌≤◌, inl, inr, Bool, false, cond, nat_lt, List, length, take, drop, Contains, slice_index_or, ap, ap₂, sym, ◌∙◌, arith}
 use Rattle.std.proofs.lemmas.Bool.{cases_lt, lt-ltb}
 use Rattle.std.proofs.lemmas.List.{get_or_past, take_all}
 use Rattle.mask_circuit.specs.Netlist.{Netlist, IsWellFormed}

@@ -10,7 +10,7 @@ use Rattle.mask_circuit.specs.Wires.{Shares, each}
 use Rattle.mask_circuit.specs.Acceptance.{gate_at, Uses, IsAccepted, IsFenced}
 use Rattle.mask_laws.specs.Clashes.{reach, clash}
 use Rattle.mask_laws.specs.Refutations.{refreshed_product}
-use Rattle.mask_laws.specs.Runs.{Call, Variable, Output, source_at, IsPublic, IsThere, IsStrongRun, run_draws, run_seen, run_hits, run_need}
+use Rattle.mask_laws.specs.Runs.{Call, Variable, Output, source_at, IsPublic, IsThere, IsStrongRun, run_draws, run_seen, run_hits, private_run_hits, run_need}
 use Rattle.mask_laws.proofs.Clashing.{clash_decides}
 use Rattle.mask_circuit.proofs.GateAt.{gate_at_within}
 
@@ -58,6 +58,12 @@ example_hits : map (λ bss. run_hits example 2 (listed bss) (10 ∷ []) (true �
     ≡ 4 ∷ 4 ∷ 0 ∷ []
 unfolding example refreshed multiplied listed
 example_hits = refl
+
+-- Over all sharings of the variables as many show it, whatever their bits are: of 4 sharings with 8 tapes each.
+example_private_hits : map (λ x. private_run_hits example 2 x (10 ∷ []) (true ∷ []))
+    ((false ∷ false ∷ []) ∷ (false ∷ true ∷ []) ∷ (true ∷ false ∷ []) ∷ (true ∷ true ∷ []) ∷ []) ≡ 8 ∷ 8 ∷ 8 ∷ 8 ∷ []
+unfolding example refreshed multiplied
+example_private_hits = refl
 
 -- The run is a strong one: its circuits are strong, and no call takes a source twice.
 refreshed_formed : IsWellFormed refreshed.circuit

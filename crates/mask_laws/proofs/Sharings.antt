@@ -1,5 +1,5 @@
 -- Sums over all sharings of bits.
-use Rattle.std.proofs.Common.{◌≡◌, ℕ, zero, suc, pred, ◌+◌, ◌*◌, ◌<◌, ◌≤◌, ◌⊎◌, inl, inr, Bool, true, false, cond, List, [], ◌∷◌, ◌++◌, length, take, drop, fold, slice_index_or, refl, ap, ap₂, sym, ◌∙◌, arith, length-drop}
+use Rattle.std.proofs.Common.{◌≡◌, ℕ, zero, suc, pred, ◌+◌, ◌*◌, ◌<◌, ◌≤◌, Bool, true, false, cond, List, [], ◌∷◌, ◌++◌, length, take, drop, fold, slice_index_or, refl, ap, ap₂, sym, ◌∙◌, arith}
 use Rattle.std.proofs.lemmas.Bool.{true≢false}
 use Rattle.std.proofs.lemmas.List.{take-take, drop-take}
 use Rattle.mask_circuit.specs.Value.{xor}
@@ -13,7 +13,7 @@ use Rattle.mask_circuit.specs.Privacy.{sharing, sum_over_sharings}
 use Rattle.mask_laws.proofs.Bits.{xor-false, xor_comm}
 use Rattle.mask_laws.proofs.BitSums.{xor_left_comm, xor_cancel}
 use Rattle.mask_laws.proofs.Shifts.{take_front, drop_front}
-use Rattle.mask_laws.proofs.Tapes.{sum_over_tapes-same, sum_over_tapes-add, sum_over_tapes-masked, length-add_bits}
+use Rattle.mask_laws.proofs.Tapes.{sum_over_tapes-same, sum_over_tapes-add, sum_over_tapes-masked}
 
 -- ONE BIT
 

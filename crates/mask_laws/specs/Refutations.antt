@@ -1,5 +1,5 @@
 -- What the definitions rule out: circuits and a run that don't meet them.
-use Rattle.std.specs.Prelude.{◌≡◌, ℕ, ◌≤◌, Bool, List, [], ◌∷◌}
+use Rattle.std.specs.Prelude.{ℕ, ◌≤◌, List, [], ◌∷◌}
 use Rattle.mask_circuit.specs.declared.gates.Gate.TheVariants.{And, Ref}
 use Rattle.mask_circuit.specs.Netlist.{Netlist, IsWellFormed}
 use Rattle.mask_circuit.specs.Probing.{ShareSets, size, IsNI, IsSNI}
