@@ -27,6 +27,7 @@ pub mod Products
 pub mod Reaching
 pub mod Refreshes
 pub mod Refuting
+pub mod Rows
 pub mod RunExamples
 pub mod RunNeeds
 pub mod Running

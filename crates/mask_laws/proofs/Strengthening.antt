@@ -18,6 +18,7 @@ use Rattle.mask_laws.specs.Clashes.{reach, clash}
 use Rattle.mask_laws.specs.Gadgets.{FitsGate, lone_product, lone_refresh, GadgetsAreSNI}
 use Rattle.mask_laws.specs.Circuits.{FitsAt, FitsFrom, Fits}
 use Rattle.mask_laws.specs.Strong.{AreAllowed, StrongNeed, StrongIsSNI}
+use Rattle.mask_laws.proofs.Bits.{or-false}
 use Rattle.mask_laws.proofs.Sets.{size-mono, size-or}
 use Rattle.mask_laws.proofs.Clashing.{clash_decides}
 use Rattle.mask_laws.proofs.Demands.{inner_probes-append}
@@ -27,11 +28,6 @@ use Rattle.mask_laws.proofs.Gates.{gate_keeps}
 use Rattle.mask_laws.proofs.Seen.{fitting_is_simulated}
 use Rattle.mask_laws.proofs.Simulation.{accepted_needs_few}
 use Rattle.mask_laws.proofs.OutputShares.{output_names, output_places-names, output_places-below, output_names-inner, output_names-only}
-
--- nothing is added by false
-or-false : (a : Bool) → (a || false) ≡ a
-or-false true = refl
-or-false false = refl
 
 -- the last two of three change places
 or_turn : (a b d : Bool) → ((a || b) || d) ≡ ((a || d) || b)

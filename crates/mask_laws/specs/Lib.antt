@@ -1,6 +1,7 @@
 pub mod Circuits
 pub mod Clashes
 pub mod Gadgets
+pub mod Masks
 pub mod Names
 pub mod Needs
 pub mod Numbering

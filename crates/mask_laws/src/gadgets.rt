@@ -1,5 +1,6 @@
 //! What is proved of a single gate: which wires it has, what is kept where it is watched, and how little it demands.
 ghost use Rattle.mask_laws.specs.Gadgets.{GadgetsAreSNI, GateKeeps, MaskIsSymmetric};
+ghost use Rattle.mask_laws.specs.Masks.{MasksAtOnce};
 ghost use Rattle.mask_laws.specs.Names.{AllNamesInOrder, GateHasNames};
 ghost use Rattle.mask_laws.specs.Needs.{NeedsAreSmall};
 
@@ -36,6 +37,12 @@ pub fn gates_keep_what_is_watched()
 /// second leads back.
 pub fn masks_are_symmetric()
     ensures { MaskIsSymmetric }
+{}
+
+/// The mask of a product or a refresh is what its rule gives row by row: the demanded rows outside T are taken in rising
+/// order, and where output share i would change under the mask so far, the bit of the pair of i and its partner is flipped.
+pub fn masks_row_by_row()
+    ensures { MasksAtOnce }
 {}
 
 /// Product and refresh are strongly non-interfering: in a circuit of one of them any t wires that are no output shares,
