@@ -19,7 +19,7 @@ use Rattle.mask_laws.proofs.OutputShares.{Contains-map, output_names, output_nam
 use Rattle.mask_laws.proofs.RunNeeds.{asked_of, call_probes, call_allowed, demanded_by-all, demanded_small, length-places}
 use Rattle.mask_laws.proofs.Gates.{gate_keeps}
 use Rattle.mask_laws.proofs.Probes.{probed_shares-from_Contains, need_from-probed}
-use Rattle.mask_laws.proofs.Seen.{shift_keeps, shift_reorders}
+use Rattle.mask_laws.proofs.Seen.{map-same, shift_keeps, shift_reorders}
 use Rattle.mask_laws.proofs.Shifts.{take_front, drop_front, length-shift_from}
 use Rattle.mask_laws.proofs.Strengthening.{strong_masked, need_with_outputs, asked_names, asked_within, asked_fits}
 use Rattle.mask_laws.proofs.Tapes.{sum_over_tapes-same, sum_over_tapes-add}
@@ -259,11 +259,6 @@ shift_run-keeps (call ∷ calls) N j P counts x y a b r two are few number agree
     (later_agree call calls N j P counts x y a b own two are few number agree own_long) rest_long (p - w) (place_behind w P p h le))
     ∙ ap (λ ws. slice_index_or ws p false) (sym (wires_parts call calls N j y b new _ new_long))
 
--- two functions that agree at the elements of a list make the same list
-pub map_agree : {A B : Type 0} (f g : A → B) (xs : List A) → ((x : A) → Contains xs x → f x ≡ g x) → map f xs ≡ map g xs
-map_agree f g [] h = refl
-map_agree f g (x ∷ xs) h = ap₂ (λ y ys. y ∷ ys) (h x (Contains-first x xs)) (map_agree f g xs (λ y k. h y (Contains-later x xs y k)))
-
 -- before any call the sides agree on the need of the variables
 start_agree : (calls : List Call) (N : ℕ) (P : List ℕ) (x y : ℕ → Shares Bool) → ((v i : ℕ) → i < N → run_need calls N P v i ≡ true → x v i ≡ y v i) →
     SidesAgree calls N P [] x y no_outputs no_outputs
@@ -279,7 +274,7 @@ run_needs calls N P two are few = (
       let hit = λ (bs : List Bool). cond (same_bits bs v) 1 0 in
       let shifted = λ (r : List Bool). shift_run calls N 0 x y no_outputs no_outputs P r in
       sum_over_tapes-same (run_draws calls N) _ _ (λ r long. ap hit
-      (map_agree (λ p. slice_index_or (run_wires calls N x r) p false) (λ p. slice_index_or (run_wires calls N y (shifted r)) p false) P
+      (map-same (λ p. slice_index_or (run_wires calls N x r) p false) (λ p. slice_index_or (run_wires calls N y (shifted r)) p false) P
       (λ p h. shift_run-keeps calls N 0 P [] x y no_outputs no_outputs r two are few refl (start_agree calls N P x y agree) long p h)))
       ∙ sum_over_tapes-shift_run calls N 0 x y no_outputs no_outputs P (λ r. hit (run_seen calls N y r P)),
 )

@@ -24,19 +24,20 @@ row_by_row base moves partner_of (suc k) i j =
     let before = row_by_row base moves partner_of k in
     xor (before i j) (moves before k && is_pair_of k (partner_of k) i j)
 
--- The mask of a product: the demanded rows outside T whose output share would change under the mask so far.
+-- The mask of a product: the demanded rows that no inner probe touches move where their output share would change under the
+-- mask so far.
 abbrev pub product_by_rows : ℕ → List Wire → ShareSet → Sides → Sides → Mask
 product_by_rows n Q O a b =
     row_by_row (product_base Q a b) (λ mask i. O i && not (product_rows Q i) && share_change n a b mask i)
     (partner n Left Q (product_rows Q) O) n
 
--- The mask of a refresh: the demanded rows outside T whose operand share changed.
+-- The mask of a refresh: the demanded rows that no probed update touches move where their operand share changed.
 abbrev pub refresh_by_rows : ℕ → List Wire → ShareSet → Sides → Mask
 refresh_by_rows n Q O a =
     row_by_row (λ i j. false) (λ mask i. O i && not (refresh_need Q i) && xor (a.one i) (a.two i))
     (partner n Fresh Q (refresh_need Q) O) n
 
--- Both are the masks at once, for each pair of shares.
+-- The masks at once are these, for each pair of shares.
 abbrev pub MasksAtOnce : Type 0
 MasksAtOnce = (n : ℕ) (Q : List Wire) (O : ShareSet) (a b : Sides) (i j : ℕ) → IsPair n i j →
     (product_mask n Q O a b i j ≡ product_by_rows n Q O a b i j) × (refresh_mask n Q O a i j ≡ refresh_by_rows n Q O a i j)

@@ -39,8 +39,9 @@ pub fn masks_are_symmetric()
     ensures { MaskIsSymmetric }
 {}
 
-/// The mask of a product or a refresh is what its rule gives row by row: the demanded rows outside T are taken in rising
-/// order, and where output share i would change under the mask so far, the bit of the pair of i and its partner is flipped.
+/// The mask of a product or a refresh is what its rule gives row by row: the demanded rows that no probe touches are taken
+/// in rising order. Where output share i of a product would change under the mask so far, or share i of a refresh's operand
+/// changed, the bit of the pair of i and its partner is flipped.
 pub fn masks_row_by_row()
     ensures { MasksAtOnce }
 {}
