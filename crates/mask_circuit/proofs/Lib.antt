@@ -5,3 +5,4 @@ pub mod Growing
 pub mod Numbering
 pub mod Places
 pub mod Plain
+pub mod PrivacyExamples

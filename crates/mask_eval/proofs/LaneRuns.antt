@@ -84,7 +84,7 @@ pub outs_held : (c : Netlist) (N : ℕ) (old new outputs : List (List ℕ)) (r :
     outputs ≡ map (λ u. get_or new u []) c.outputs → All (λ v. length v ≡ N) outputs →
     SameShares N (value_count c) (all_listed words new) (shares_of (run words N c.gates c.inputs (start words (all_listed words old)) r)) →
     outputs ≡ outs words c N (all_listed words (take c.inputs old)) r
-outs_held c N old new outputs r is copied counts same = copied ∙ go c.outputs is.outputs (subst (λ (vs : List (List ℕ)). All (λ v. length v ≡ N) vs) copied counts)
+outs_held c N old new outputs r is copied counts same = copied ∙ go c.outputs is.formed.outputs (subst (λ (vs : List (List ℕ)). All (λ v. length v ≡ N) vs) copied counts)
   where
     inputs : SameShares N c.inputs (all_listed words old) (all_listed words (take c.inputs old))
     inputs u i lu li = ap (λ (v : List ℕ). listed words v i) (sym (get_or-take c.inputs old u [] lu))
@@ -93,7 +93,7 @@ outs_held c N old new outputs r is copied counts same = copied ∙ go c.outputs 
     value u lu count =
         is_each _ N (get_or new u []) count
         (λ i li. same u i lu li
-        ∙ run-same words N c.gates c.inputs (start words (all_listed words old)) (start words (all_listed words (take c.inputs old))) r is.gates inputs u i lu li)
+        ∙ run-same words N c.gates c.inputs (start words (all_listed words old)) (start words (all_listed words (take c.inputs old))) r is.formed.gates inputs u i lu li)
 
     go : (us : List ℕ) → All (λ u. u < value_count c) us → All (λ v. length v ≡ N) (map (λ u. get_or new u []) us) →
         map (λ u. get_or new u []) us ≡ map (λ u. each (shares_of (expand words c N (all_listed words (take c.inputs old)) r) u) N) us
@@ -168,5 +168,5 @@ plain_in_lane l N c inputs outputs r is one count counts e =
     ap (λ (f : List ℕ → Bool). map f outputs) (fun_ext (λ v. unmasked_is (lane l v)))
     ∙ sym (map-map xor_all (lane l) outputs)
     ∙ ap (map xor_all) e
-    ∙ outputs_unmask c N (all_listed bits (map (lane l) inputs)) r is one
+    ∙ outputs_unmask c N (all_listed bits (map (lane l) inputs)) r is.formed one
     ∙ ap (plain c) (ap (λ (n : ℕ). each (λ v. unshared N (all_listed bits (map (lane l) inputs) v)) n) (sym count) ∙ unshared_in_lane l N inputs counts)

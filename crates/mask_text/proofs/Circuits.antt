@@ -32,8 +32,7 @@ below_one_more us m n up below k d h = let b = below k d h in omega arith
 
 pub circuit-inputs : (n : ℕ) → n ≤ MAX_VALUES → IsCircuit (only_inputs n)
 circuit-inputs n few = record {
-  gates = tt;
-  outputs = All-nil (λ u. u < n + 0);
+  formed = record { gates = tt; outputs = All-nil (λ u. u < n + 0) };
   few_values = omega arith;
   few_outputs = omega arith;
 }
@@ -42,16 +41,17 @@ pub circuit-gate : (c : Netlist) (g : Gate) → IsCircuit c → OperandsBelow (v
 circuit-gate c g is below room =
     let grown : length (c.gates ++ g ∷ []) ≡ length c.gates + 1 = omega (arith, length-append c.gates (g ∷ [])) in
     record {
-      gates = AreGates-more c.inputs c.gates g is.gates below;
-      outputs = below_one_more c.outputs _ _ (omega arith) is.outputs;
+      formed = record {
+        gates = AreGates-more c.inputs c.gates g is.formed.gates below;
+        outputs = below_one_more c.outputs _ _ (omega arith) is.formed.outputs;
+      };
       few_values = omega arith;
       few_outputs = is.few_outputs;
     }
 
 pub circuit-out : (c : Netlist) (u : ℕ) → IsCircuit c → u < value_count c → length c.outputs < MAX_OUTPUTS → IsCircuit (with_output c u)
 circuit-out c u is below room = record {
-  gates = is.gates;
-  outputs = All-push (λ u. u < value_count c) c.outputs u is.outputs below;
+  formed = record { gates = is.formed.gates; outputs = All-push (λ u. u < value_count c) c.outputs u is.formed.outputs below };
   few_values = is.few_values;
   few_outputs = omega (arith, length-append c.outputs (u ∷ []));
 }
