@@ -3,6 +3,7 @@ pub mod Expansion
 pub mod Labels
 pub mod Need
 pub mod Netlist
+pub mod Pairs
 pub mod Privacy
 pub mod Probing
 pub mod Ring

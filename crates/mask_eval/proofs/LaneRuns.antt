@@ -10,8 +10,10 @@ use Rattle.mask_circuit.specs.declared.gates.Gate.TheVariants.{Zero, One, Xor, N
 use Rattle.mask_circuit.specs.Netlist.{Netlist, IsCircuit, value_count}
 use Rattle.mask_circuit.specs.Value.{xor, plain}
 use Rattle.mask_circuit.specs.Ring.{Ring, bits, words}
-use Rattle.mask_circuit.specs.Wires.{Wire, Share, Product, Fresh, Left, Right, Partial, Shares, each, gate_draws, gate_wire}
-use Rattle.mask_circuit.specs.Expansion.{Trace, shares_of, put, start, run, expand, draws, outs}
+use Rattle.mask_circuit.specs.declared.gates.Wire.{Wire}
+use Rattle.mask_circuit.specs.declared.gates.Wire.TheVariants.{Share, Product, Fresh, Left, Right, Partial}
+use Rattle.mask_circuit.specs.Wires.{Shares, each, gate_draws, gate_wire}
+use Rattle.mask_circuit.specs.Expansion.{Carried, shares_of, put, start, run, expand, draws, outs}
 use Rattle.mask_laws.specs.Sharing.{xor_all, unshared}
 use Rattle.mask_laws.proofs.Bits.{xor-false, xor_assoc}
 use Rattle.mask_laws.proofs.Unmasking.{outputs_unmask}
@@ -20,7 +22,7 @@ use Rattle.mask_shares.proofs.Lists.{length-each, get_or-each, is_each, each-sam
 use Rattle.mask_gadget.proofs.Made.{map-each}
 use Rattle.mask_gadget.proofs.Lanes.{Keeps, KeepsUnit, keeps_lane, keeps_unit, gate_wire-keeps, all_listed-keeps, length-lane}
 use Rattle.mask_tape.specs.Drawn.{Drawn, ahead}
-use Rattle.mask_eval.specs.Frames.{Held, Fits, SameShares, input_values}
+use Rattle.mask_eval.specs.Frames.{Held, IsFrameOf, SameShares, input_values}
 use Rattle.mask_eval.proofs.Runs.{run-same}
 
 -- LANES
@@ -42,7 +44,7 @@ module _ {X Y : Type 0} (R : Ring X) (S : Ring Y) (h : X → Y) (keeps : Keeps R
   start-keeps x v (Right i j) = keeps.nought
   start-keeps x v (Partial i j) = keeps.nought
 
-  put-keeps : (N n : ℕ) (g : Gate) (t : Trace X) (r : List X) (v : ℕ) (w : Wire) →
+  put-keeps : (N n : ℕ) (g : Gate) (t : Carried X) (r : List X) (v : ℕ) (w : Wire) →
       h (put n (gate_wire R N g (shares_of t) (take (gate_draws N g) r)) t v w)
       ≡ put n (gate_wire S N g (shares_of (λ v w. h (t v w))) (take (gate_draws N g) (map h r))) (λ v w. h (t v w)) v w
   put-keeps N n g t r v w = go (v == n)
@@ -54,21 +56,21 @@ module _ {X Y : Type 0} (R : Ring X) (S : Ring Y) (h : X → Y) (keeps : Keeps R
           ∙ ap (λ (q : List Y). gate_wire S N g (λ u i. h (t u (Share i))) q w) (sym (take-map h (gate_draws N g) r))
       go false = refl
 
-  run-keeps : (N : ℕ) (gs : List Gate) (n : ℕ) (t : Trace X) (r : List X) →
+  run-keeps : (N : ℕ) (gs : List Gate) (n : ℕ) (t : Carried X) (r : List X) →
       (λ v w. h (run R N gs n t r v w)) ≡ run S N gs n (λ v w. h (t v w)) (map h r)
   run-keeps N [] n t r = refl
   run-keeps N (g ∷ gs) n t r =
       run-keeps N gs (suc n) _ (drop (gate_draws N g) r)
-      ∙ ap₂ (λ (T : Trace Y) (q : List Y). run S N gs (suc n) T q) (fun_ext (λ v. fun_ext (λ w. put-keeps N n g t r v w)))
+      ∙ ap₂ (λ (T : Carried Y) (q : List Y). run S N gs (suc n) T q) (fun_ext (λ v. fun_ext (λ w. put-keeps N n g t r v w)))
       (sym (drop-map h (gate_draws N g) r))
 
   outs-keeps : (c : Netlist) (N : ℕ) (x : ℕ → Shares X) (r : List X) → map (map h) (outs R c N x r) ≡ outs S c N (λ v i. h (x v i)) (map h r)
   outs-keeps c N x r =
       map-map (map h) (λ u. each (shares_of (expand R c N x r) u) N) c.outputs
       ∙ ap (λ (f : ℕ → List Y). map f c.outputs) (fun_ext (λ u. map-each h (shares_of (expand R c N x r) u) N))
-      ∙ ap (λ (T : Trace Y). map (λ u. each (shares_of T u) N) c.outputs)
+      ∙ ap (λ (T : Carried Y). map (λ u. each (shares_of T u) N) c.outputs)
       (run-keeps N c.gates c.inputs (start R x) r
-      ∙ ap (λ (T : Trace Y). run S N c.gates c.inputs T (map h r)) (fun_ext (λ v. fun_ext (λ w. start-keeps x v w))))
+      ∙ ap (λ (T : Carried Y). run S N c.gates c.inputs T (map h r)) (fun_ext (λ v. fun_ext (λ w. start-keeps x v w))))
 
 -- lane by lane the outputs are those of the circuit on the lane's bits
 pub outs_in_lane : (l N : ℕ) (c : Netlist) (values : List (List ℕ)) (r : List ℕ) → l < 64 →
@@ -108,7 +110,7 @@ same_values values = ap (λ (f : List ℕ → List ℕ). map f values) (fun_ext 
 
 -- the same of a frame, where the parts are given otherwise
 pub outputs_of_frame : (c : Netlist) (N : ℕ) (frame : Held) (numbers : List ℕ) (old new seen copies : List (List ℕ)) (coins : Drawn) →
-    IsCircuit c → Fits frame c → numbers ≡ c.outputs → old ≡ frame.values → seen ≡ new →
+    IsCircuit c → IsFrameOf frame c → numbers ≡ c.outputs → old ≡ frame.values → seen ≡ new →
     copies ≡ map (λ u. get_or seen u []) numbers → All (λ v. length v ≡ N) copies →
     SameShares N (value_count c) (all_listed words (map (map (λ w. w)) new))
     (shares_of (expand words c N (all_listed words (map (map (λ w. w)) old)) (ahead (draws c N) coins))) →

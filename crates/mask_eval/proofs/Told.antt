@@ -8,11 +8,13 @@ use Rattle.mask_circuit.specs.declared.gates.Gate.{Gate}
 use Rattle.mask_circuit.specs.declared.gates.Gate.TheVariants.{Zero, One, Xor, Not, And, Ref}
 use Rattle.mask_circuit.specs.Netlist.{Netlist, OperandsBelow, AreGates, value_count}
 use Rattle.mask_circuit.specs.Ring.{Ring}
-use Rattle.mask_circuit.specs.Wires.{Wire, Share, Shares, each, joined, pairs, fresh_of, gate_names, gate_draws, gate_wire, gate_wires, gate_out}
-use Rattle.mask_circuit.specs.Expansion.{Trace, Place, shares_of, put, start, run, expand, names, names_from, names_of, wires, wire_count, wires_before}
+use Rattle.mask_circuit.specs.declared.gates.Wire.{Wire}
+use Rattle.mask_circuit.specs.declared.gates.Wire.TheVariants.{Share}
+use Rattle.mask_circuit.specs.Wires.{Shares, each, joined, pairs, fresh_of, gate_names, gate_draws, gate_wire, gate_wires, gate_out}
+use Rattle.mask_circuit.specs.Expansion.{Carried, CircuitWire, shares_of, put, start, run, expand, names, names_from, names_of, wires, wire_count, wires_before}
 use Rattle.mask_circuit.proofs.Numbering.{wire_count-before, length-names_of}
 use Rattle.mask_circuit.proofs.Places.{length-each, length-joined}
-use Rattle.mask_laws.proofs.Traces.{put-same, run-earlier}
+use Rattle.mask_laws.proofs.Carrying.{put-same, run-earlier}
 use Rattle.mask_laws.proofs.Operands.{map-same_in}
 use Rattle.mask_shares.specs.Sharing.{all_listed}
 use Rattle.mask_shares.proofs.Lists.{each-same}
@@ -45,7 +47,7 @@ module _ {X : Type 0} (R : Ring X) (N : ℕ) (two : 2 ≤ N) where
   gate-same n (Ref u) s s' r below same = refresh_wires-agree R N (fresh_of R (pairs N) r) (s u) (s' u) (λ i lt. same u i below lt) two
 
   -- so do those of gates one after another
-  pub wires_from-same : (gs : List Gate) (n : ℕ) (t t' : Trace X) (r : List X) → AreGates n gs → SameShares N n (shares_of t) (shares_of t') →
+  pub wires_from-same : (gs : List Gate) (n : ℕ) (t t' : Carried X) (r : List X) → AreGates n gs → SameShares N n (shares_of t) (shares_of t') →
       wires_from R N gs n t r ≡ wires_from R N gs n t' r
   wires_from-same [] n t t' r are same = refl
   wires_from-same (g ∷ gs) n t t' r are same =
@@ -56,7 +58,7 @@ module _ {X : Type 0} (R : Ring X) (N : ℕ) (two : 2 ≤ N) where
       (λ ne. same v j (omega arith) lj)))
 
   -- they read as many fresh bits as they draw
-  pub wires_from-take : (gs : List Gate) (n : ℕ) (t : Trace X) (r : List X) →
+  pub wires_from-take : (gs : List Gate) (n : ℕ) (t : Carried X) (r : List X) →
       wires_from R N gs n t (take (sum_by (gate_draws N) gs) r) ≡ wires_from R N gs n t r
   wires_from-take [] n t r = refl
   wires_from-take (g ∷ gs) n t r =
@@ -78,7 +80,7 @@ module _ {X : Type 0} (R : Ring X) (N : ℕ) (two : 2 ≤ N) where
   next_told n g gs values out r r' told told' all are room is now rest before =
       let d = gate_draws N g in
       let here : List X = gate_wires R N g (all_listed R values) (take d r) in
-      let t : Trace X = put n (gate_wire R N g (all_listed R values) (take d r)) (start R (all_listed R values)) in
+      let t : Carried X = put n (gate_wire R N g (all_listed R values) (take d r)) (start R (all_listed R values)) in
       ap₂ told_more now
       (ap (λ (q : List X). wires_from R N gs (suc n) (start R (all_listed R (set values n out))) q) rest
       ∙ wires_from-same gs (suc n) _ t (drop d r) are.1 (set-same R N n g values out (take d r) room is))
@@ -86,32 +88,32 @@ module _ {X : Type 0} (R : Ring X) (N : ℕ) (two : 2 ≤ N) where
       ∙ before
 
 -- share i of value v
-abbrev share_of : ℕ → ℕ → Place
+abbrev share_of : ℕ → ℕ → CircuitWire
 share_of v i = (v, Share i)
 
 -- the wires of gates one after another are those of the values that they make
 module _ {X : Type 0} (R : Ring X) (N : ℕ) where
-  pub named_from : (gs : List Gate) (n : ℕ) (t : Trace X) (r : List X) →
-      map (λ (p : Place). run R N gs n t r p.0 p.1) (names_from N gs n) ≡ wires_from R N gs n t r
+  pub named_from : (gs : List Gate) (n : ℕ) (t : Carried X) (r : List X) →
+      map (λ (p : CircuitWire). run R N gs n t r p.0 p.1) (names_from N gs n) ≡ wires_from R N gs n t r
   named_from [] n t r = refl
   named_from (g ∷ gs) n t r =
       let W : Wire → X = gate_wire R N g (shares_of t) (take (gate_draws N g) r) in
-      let t' : Trace X = put n W t in
+      let t' : Carried X = put n W t in
       let r' : List X = drop (gate_draws N g) r in
-      map-append (λ (p : Place). run R N gs (suc n) t' r' p.0 p.1) (map (λ w. (n, w)) (gate_names N g)) (names_from N gs (suc n))
+      map-append (λ (p : CircuitWire). run R N gs (suc n) t' r' p.0 p.1) (map (λ w. (n, w)) (gate_names N g)) (names_from N gs (suc n))
       ∙ ap₂ (λ (xs ys : List X). xs ++ ys)
-      (map-map (λ (p : Place). run R N gs (suc n) t' r' p.0 p.1) (λ w. (n, w)) (gate_names N g)
+      (map-map (λ (p : CircuitWire). run R N gs (suc n) t' r' p.0 p.1) (λ w. (n, w)) (gate_names N g)
       ∙ map-same_in _ _ (gate_names N g) (λ w h. run-earlier R N gs (suc n) t' r' n w (omega arith) ∙ put-here n w W t))
       (named_from gs (suc n) t' r')
     where
-      put-here : (n : ℕ) (w : Wire) (W : Wire → X) (t : Trace X) → put n W t n w ≡ W w
+      put-here : (n : ℕ) (w : Wire) (W : Wire → X) (t : Carried X) → put n W t n w ≡ W w
       put-here n w W t = rw (eq-eqb n n refl) refl
 
   -- all wires of a circuit but its inputs
   pub all_told : (c : Netlist) (x : ℕ → Shares X) (r : List X) → drop (N * c.inputs) (wires R c N x r) ≡ wires_from R N c.gates c.inputs (start R x) r
   all_told c x r =
-      let F : Place → X = λ p. expand R c N x r p.0 p.1 in
-      let inputs : List Place = joined (λ v. each (share_of v) N) c.inputs in
+      let F : CircuitWire → X = λ p. expand R c N x r p.0 p.1 in
+      let inputs : List CircuitWire = joined (λ v. each (share_of v) N) c.inputs in
       let all : length inputs ≡ c.inputs * N = length-joined (λ v. each (share_of v) N) N c.inputs (λ v. length-each (share_of v) N) in
       let count : length (map F inputs) ≡ N * c.inputs = omega (arith, length-map inputs F) in
       ap (drop (N * c.inputs)) (map-append F inputs (names_from N c.gates c.inputs))

@@ -4,14 +4,14 @@ use Rattle.mask_circuit.specs.declared.gates.Gate.{Gate}
 use Rattle.mask_circuit.specs.Netlist.{Netlist}
 use Rattle.mask_circuit.specs.Ring.{Ring}
 use Rattle.mask_circuit.specs.Wires.{Shares, gate_draws, gate_wire, gate_wires}
-use Rattle.mask_circuit.specs.Expansion.{Trace, shares_of, put, wires}
+use Rattle.mask_circuit.specs.Expansion.{Carried, shares_of, put, wires}
 
 -- what the wires that gates make carry: all wires but the input shares, which stand first
 abbrev pub made_wires : {X : Type 0} → Ring X → Netlist → ℕ → (ℕ → Shares X) → List X → List X
 made_wires R c N x r = drop (N * c.inputs) (wires R c N x r)
 
 -- for the steps of the loop: the wires of these gates, one gate after another, the first of which makes value n
-abbrev pub wires_from : {X : Type 0} → Ring X → ℕ → List Gate → ℕ → Trace X → List X → List X
+abbrev pub wires_from : {X : Type 0} → Ring X → ℕ → List Gate → ℕ → Carried X → List X → List X
 wires_from R N [] n t r = []
 wires_from R N (g ∷ gs) n t r =
     gate_wires R N g (shares_of t) (take (gate_draws N g) r)

@@ -8,7 +8,7 @@ ghost use Rattle.mask_circuit.specs.Value.{plain};
 ghost use Rattle.mask_circuit.specs.Expansion.{draws, outs};
 ghost use Rattle.mask_shares.specs.Sharing.{all_listed, unmasked};
 ghost use Rattle.mask_tape.specs.Drawn.{ahead, left};
-ghost use Rattle.mask_eval.specs.Frames.{Fits, input_values};
+ghost use Rattle.mask_eval.specs.Frames.{IsFrameOf, input_values};
 ghost use Rattle.mask_eval.specs.Watching.{reports, told_more};
 
 use crate::frames::Frame;
@@ -37,7 +37,7 @@ pub fn eval<const N: usize, W: Watch, L: Ledger>(
     requires few { N ≤ 8 }
     requires some_lanes { 1 ≤ lanes }
     requires few_lanes { lanes ≤ 64 }
-    requires fits { Fits frame.old circuit.now }
+    requires fits { IsFrameOf frame.old circuit.now }
     requires coins { draws circuit.now N ≤ left coins.old }
     requires ready { W.ready watch.old circuit.now (N - 1) lanes }
     ensures words { frame.new.outputs ≡ outs words circuit.now N (all_listed words (input_values frame.old)) (ahead (draws circuit.now N) coins.old) }
@@ -50,7 +50,7 @@ pub fn eval<const N: usize, W: Watch, L: Ledger>(
     ensures plain { (l : ℕ) → l < 64 → map (λ v. unmasked bits (lane l v)) frame.new.outputs
         ≡ plain circuit.now (map (λ v. unmasked bits (lane l v)) (input_values frame.old)) }
     ensures inputs { input_values frame.new ≡ input_values frame.old }
-    ensures fits { Fits frame.new circuit.now }
+    ensures fits { IsFrameOf frame.new circuit.now }
     ensures spent { coins.new.used ≡ coins.old.used + draws circuit.now N }
     ensures same { coins.new.words ≡ coins.old.words }
     ensures steps { steps.new ≡ steps.old + length circuit.now.gates }

@@ -2,7 +2,7 @@
 
 ghost use Rattle.std.specs.Prelude.{◌≡◌, ◌+◌, ◌*◌, ◌<◌, ◌≤◌, length, replicate, slice_set, IfOk};
 ghost use Rattle.mask_circuit.specs.Netlist.{Netlist, value_count};
-ghost use Rattle.mask_eval.specs.Frames.{Held, Fits};
+ghost use Rattle.mask_eval.specs.Frames.{Held, IsFrameOf};
 
 use mask_check::Admitted;
 use mask_shares::Shares;
@@ -39,7 +39,7 @@ impl<const N: usize> Frame<N> {
     pub fn new(alloc: Global, circuit: &Admitted) -> Result<Frame<N>, AllocError>
         requires some { 2 ≤ N }
         requires few { N ≤ 8 }
-        ensures fits { IfOk result (λ f. Fits f circuit.now) }
+        ensures fits { IfOk result (λ f. IsFrameOf f circuit.now) }
         ensures values { IfOk result (λ f. f.values ≡ replicate (value_count circuit.now) (replicate N 0)) }
         ensures outputs { IfOk result (λ f. f.outputs ≡ replicate (length circuit.now.outputs) (replicate N 0)) }
     {
@@ -64,7 +64,7 @@ impl<const N: usize> Frame<N> {
         requires few { N ≤ 8 }
         requires input { input < self.old.inputs }
         ensures value { self.new ≡ record self.old { values = slice_set self.old.values input value.entry } }
-        ensures fits { (c : Netlist) → Fits self.old c → Fits self.new c }
+        ensures fits { (c : Netlist) → IsFrameOf self.old c → IsFrameOf self.new c }
     {
         self.values[input as usize] = value.parts();
     }

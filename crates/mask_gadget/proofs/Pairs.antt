@@ -2,7 +2,8 @@
 use Rattle.std.proofs.Common.{◌≡◌, ℕ, suc, ◌+◌, ◌-◌, ◌<◌, ◌≤◌, inl, inr, Option, List, length, map, drop, get_or, refl, sym, ◌∙◌, arith, flat_map}
 use Rattle.std.proofs.lemmas.List.{get_or-take, get_or-drop}
 use Rattle.mask_circuit.specs.Ring.{words}
-use Rattle.mask_circuit.specs.Wires.{Wire, Pair, joined, row_pairs, pairs}
+use Rattle.mask_circuit.specs.declared.gates.Wire.{Wire}
+use Rattle.mask_circuit.specs.Wires.{Pair, joined, row_pairs, pairs}
 use Rattle.mask_laws.specs.Names.{pairs_before, pair_number}
 use Rattle.mask_tape.specs.Drawn.{Drawn}
 use Rattle.mask_circuit.proofs.Places.{below_cases}
@@ -11,7 +12,7 @@ use Rattle.mask_gadget.specs.Wiring.{told_more}
 use Rattle.mask_gadget.proofs.Telling.{told_joined}
 use Rattle.mask_laws.proofs.Lookup.{fresh_of-at}
 use Rattle.mask_gadget.proofs.Made.{flat_map-each, flat_map-joined, joined-same}
-use Rattle.mask_laws.proofs.PairNumbers.{length-pairs, pair_number-lt, pairs_before-all, pairs_before-more}
+use Rattle.mask_circuit.proofs.PairNumbers.{length-pairs, pair_number-lt, pairs_before-all, pairs_before-more}
 
 -- the coin of a pair
 pub coin_at : (coins : Drawn) (n i j : ℕ) → i < j → j < n →

@@ -2,7 +2,9 @@
 use Rattle.std.proofs.Common.{◌≡◌, ℕ, suc, pred, ◌+◌, ◌-◌, ◌*◌, ◌<◌, Option, List, ◌++◌, length, map, bit_xor, bit_and, flat_map, refl, sym, ap, ◌∙◌, arith, length-append}
 use Rattle.std.proofs.lemmas.List.{map-append}
 use Rattle.mask_circuit.specs.Ring.{words}
-use Rattle.mask_circuit.specs.Wires.{Wire, Share, Product, Pair, Shares, each, joined, pairs, other, row_wire, row_sum, cross, product_wire, product_names}
+use Rattle.mask_circuit.specs.declared.gates.Wire.{Wire}
+use Rattle.mask_circuit.specs.declared.gates.Wire.TheVariants.{Share, Product}
+use Rattle.mask_circuit.specs.Wires.{Pair, Shares, each, joined, pairs, other, row_wire, row_sum, cross, product_wire, product_names}
 use Rattle.mask_circuit.proofs.Places.{length-each, length-joined, length-threes}
 use Rattle.mask_gadget.specs.Wiring.{told_more}
 use Rattle.mask_gadget.specs.Gadgets.{Mixed, pair_names, pair_row, row_names}

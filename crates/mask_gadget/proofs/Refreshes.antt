@@ -3,7 +3,9 @@ use Rattle.std.proofs.Common.{◌≡◌, ◌≢◌, ℕ, suc, pred, ◌+◌, ◌
 use Rattle.std.proofs.lemmas.Bool.{lt-ltb, le-ltb}
 use Rattle.std.proofs.lemmas.List.{get_or-set_same, get_or-set_other, length-set, map-set}
 use Rattle.mask_circuit.specs.Ring.{words}
-use Rattle.mask_circuit.specs.Wires.{Wire, Share, Fresh, Shares, row_wire, fresh_between, refresh_wire, Pair, pairs, joined, refresh_names}
+use Rattle.mask_circuit.specs.declared.gates.Wire.{Wire}
+use Rattle.mask_circuit.specs.declared.gates.Wire.TheVariants.{Share, Fresh}
+use Rattle.mask_circuit.specs.Wires.{Shares, row_wire, fresh_between, refresh_wire, Pair, pairs, joined, refresh_names}
 use Rattle.mask_circuit.proofs.Places.{below_cases, length-threes}
 use Rattle.mask_gadget.proofs.Pairs.{by_rows}
 use Rattle.mask_gadget.proofs.Telling.{word_read}

@@ -1,7 +1,9 @@
 -- The coins of a gadget; and, for the steps of its body, the parts of its wires and how far it has come.
 use Rattle.std.specs.Prelude.{◌≡◌, ◌⊎◌, ℕ, zero, suc, pred, ◌+◌, ◌<◌, ◌≤◌, List, [], ◌∷◌, length, slice_index, bit_and}
 use Rattle.mask_circuit.specs.Ring.{Ring, words}
-use Rattle.mask_circuit.specs.Wires.{Wire, Fresh, Left, Right, Shares, each, joined, pairs, other, row_wire, row_sum, cross, fresh_of, fresh_between}
+use Rattle.mask_circuit.specs.declared.gates.Wire.{Wire}
+use Rattle.mask_circuit.specs.declared.gates.Wire.TheVariants.{Fresh, Left, Right}
+use Rattle.mask_circuit.specs.Wires.{Shares, each, joined, pairs, other, row_wire, row_sum, cross, fresh_of, fresh_between}
 use Rattle.mask_laws.specs.Names.{pairs_before}
 use Rattle.mask_tape.specs.Drawn.{Drawn, ahead}
 

@@ -3,7 +3,8 @@
 ghost use Rattle.std.specs.Prelude.{◌≡◌, ℕ, suc, ◌+◌, ◌-◌, ◌*◌, ◌<◌, ◌≤◌, [], ◌∷◌, length, map, slice_index, bit_and};
 ghost use Rattle.mask_circuit.specs.declared.gates.Gate.TheVariants.{And};
 ghost use Rattle.mask_circuit.specs.Ring.{words};
-ghost use Rattle.mask_circuit.specs.Wires.{Shares, Share, each, joined, pairs, other, row_sum, product_wire, product_names, gate_out, gate_wires};
+ghost use Rattle.mask_circuit.specs.declared.gates.Wire.TheVariants.{Share};
+ghost use Rattle.mask_circuit.specs.Wires.{Shares, each, joined, pairs, other, row_sum, product_wire, product_names, gate_out, gate_wires};
 ghost use Rattle.mask_shares.specs.Sharing.{all_listed};
 ghost use Rattle.mask_tape.specs.Drawn.{Drawn, left};
 ghost use Rattle.mask_gadget.specs.Wiring.{told_more, cell, IsSquare};

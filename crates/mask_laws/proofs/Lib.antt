@@ -21,7 +21,6 @@ pub mod Needs
 pub mod Numbering
 pub mod Operands
 pub mod OutputShares
-pub mod PairNumbers
 pub mod Probes
 pub mod Products
 pub mod Reaching
@@ -40,5 +39,5 @@ pub mod Strengthening
 pub mod Sums
 pub mod Symmetry
 pub mod Tapes
-pub mod Traces
+pub mod Carrying
 pub mod Unmasking

@@ -3,7 +3,8 @@ use Rattle.std.proofs.Common.{◌≡◌, ◌≢◌, ℕ, zero, suc, pred, ◌<�
 use Rattle.std.specs.declared.option.Option.{Option}
 use Rattle.std.proofs.lemmas.Bool.{cases_lt, cases_order, and_right}
 use Rattle.mask_circuit.specs.Value.{xor}
-use Rattle.mask_circuit.specs.Wires.{Wire, Fresh, Left}
+use Rattle.mask_circuit.specs.declared.gates.Wire.{Wire}
+use Rattle.mask_circuit.specs.declared.gates.Wire.TheVariants.{Fresh, Left}
 use Rattle.mask_circuit.specs.Need.{ShareSet, product_rows, refresh_need}
 use Rattle.mask_circuit.specs.Shift.{Sides, product_change, is_some_of, partner, product_base, cross_change, share_change}
 use Rattle.mask_laws.specs.Masks.{Mask, is_pair_of, row_by_row, MasksAtOnce}

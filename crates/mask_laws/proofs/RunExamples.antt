@@ -10,7 +10,7 @@ use Rattle.mask_circuit.specs.Wires.{Shares, each}
 use Rattle.mask_circuit.specs.Acceptance.{gate_at, Uses, IsAccepted, IsFenced}
 use Rattle.mask_laws.specs.Clashes.{reach, clash}
 use Rattle.mask_laws.specs.Refutations.{refreshed_product}
-use Rattle.mask_laws.specs.Runs.{Call, Variable, Output, source_at, IsPublic, IsThere, IsStrongRun, run_draws, run_seen, run_hits, private_run_hits, run_need}
+use Rattle.mask_laws.specs.Runs.{Call, Variable, Output, origin_at, IsPublic, IsThere, IsStrongRun, run_draws, run_seen, run_hits, private_run_hits, run_need}
 use Rattle.mask_laws.proofs.Clashing.{clash_decides}
 use Rattle.mask_circuit.proofs.GateAt.{gate_at_within}
 
@@ -28,10 +28,10 @@ past_gates c v u past h = go (gate_at c v) refl h
 
 -- The first call refreshes variable 0; the second one multiplies that by variable 1 and refreshes the product.
 refreshed : Call
-refreshed = record { circuit = record { inputs = 1; gates = Ref 0 ∷ []; outputs = 1 ∷ [] }; sources = Variable 0 ∷ [] }
+refreshed = record { circuit = record { inputs = 1; gates = Ref 0 ∷ []; outputs = 1 ∷ [] }; origins = Variable 0 ∷ [] }
 
 multiplied : Call
-multiplied = record { circuit = refreshed_product; sources = Output 0 0 ∷ Variable 1 ∷ [] }
+multiplied = record { circuit = refreshed_product; origins = Output 0 0 ∷ Variable 1 ∷ [] }
 
 example : List Call
 example = refreshed ∷ multiplied ∷ []
@@ -65,7 +65,7 @@ example_private_hits : map (λ x. private_run_hits example 2 x (10 ∷ []) (true
 unfolding example refreshed multiplied
 example_private_hits = refl
 
--- The run is a strong one: its circuits are strong, and no call takes a source twice.
+-- The run is a strong one: its circuits are strong, and no call takes an origin twice.
 refreshed_formed : IsWellFormed refreshed.circuit
 unfolding refreshed
 refreshed_formed = record {
@@ -109,7 +109,7 @@ pub product_accepted : IsAccepted refreshed_product
 unfolding reach clash
 product_accepted = (clash_decides refreshed_product product_formed).0.0 refl
 
-multiplied_once : (u v : ℕ) → u < v → v < 2 → source_at multiplied u ≡ source_at multiplied v → IsPublic (source_at multiplied u)
+multiplied_once : (u v : ℕ) → u < v → v < 2 → origin_at multiplied u ≡ origin_at multiplied v → IsPublic (origin_at multiplied u)
 unfolding multiplied
 multiplied_once zero zero lt two e = absurd (omega arith)
 multiplied_once zero (suc zero) lt two e = cc
@@ -122,7 +122,7 @@ example_strong = (
   record {
     formed = refreshed_formed;
     strong = (refreshed_accepted, refreshed_fenced);
-    sources = refl;
+    origins = refl;
     there = All-cons (IsThere []) (Variable 0) [] tt (All-nil (IsThere []));
     once = λ u v lt one e. absurd (omega arith);
   },
@@ -130,7 +130,7 @@ example_strong = (
     record {
       formed = product_formed;
       strong = (product_accepted, product_fenced);
-      sources = refl;
+      origins = refl;
       there = All-cons (IsThere (1 ∷ [])) (Output 0 0) (Variable 1 ∷ []) (omega arith, omega arith)
           (All-cons (IsThere (1 ∷ [])) (Variable 1) [] tt (All-nil (IsThere (1 ∷ []))));
       once = multiplied_once;

@@ -7,13 +7,14 @@ use Rattle.std.proofs.lemmas.List.Elements.{All-get_or, Contains-append_left, Co
 use Rattle.std.proofs.lemmas.List.Sums.{sum_by-cons}
 use Rattle.mask_circuit.specs.Netlist.{Netlist}
 use Rattle.mask_circuit.specs.Ring.{bits}
-use Rattle.mask_circuit.specs.Wires.{Share, Shares}
-use Rattle.mask_circuit.specs.Expansion.{Place, shares_of, expand, names, wire_count, wires}
+use Rattle.mask_circuit.specs.declared.gates.Wire.TheVariants.{Share}
+use Rattle.mask_circuit.specs.Wires.{Shares}
+use Rattle.mask_circuit.specs.Expansion.{CircuitWire, shares_of, expand, names, wire_count, wires}
 use Rattle.mask_circuit.specs.Probing.{same_bits, sum_over_tapes, AgreeOn, output_places}
 use Rattle.mask_circuit.specs.Need.{need, probes_at}
 use Rattle.mask_circuit.specs.Acceptance.{output_at}
 use Rattle.mask_circuit.specs.Shift.{shift}
-use Rattle.mask_laws.specs.Runs.{Source, Public, Variable, Output, Call, source_at, Outputs, no_outputs, source_shares, input_shares, call_draws, call_wires, evaluation, evaluation_wires, with_outputs, evaluations_from, run_wires, run_draws, run_seen, IsThere, IsStrongCall, AreStrongCalls, places_within, places_behind, demanded, demanded_by, run_need, RunNeed}
+use Rattle.mask_laws.specs.Runs.{Origin, Public, Variable, Output, Call, origin_at, Outputs, no_outputs, origin_shares, call_inputs, call_draws, call_wires, evaluation, evaluation_wires, with_outputs, evaluations_from, run_wires, run_draws, run_seen, IsThere, IsStrongCall, AreStrongCalls, places_within, places_behind, demanded, demanded_by, run_need, RunNeed}
 use Rattle.mask_laws.proofs.Members.{none_in_nil, Contains-cons_cases, Contains-first, Contains-later}
 use Rattle.mask_laws.proofs.OutputShares.{Contains-map, output_names, output_names-all}
 use Rattle.mask_laws.proofs.RunNeeds.{asked_of, call_probes, call_allowed, demanded_by-all, demanded_small, length-places}
@@ -34,8 +35,8 @@ call_shift call calls N j P s s' own = shift call.circuit N s s' (call_probes ca
 abbrev pub shift_run : List Call → ℕ → ℕ → (ℕ → Shares Bool) → (ℕ → Shares Bool) → Outputs → Outputs → List ℕ → List Bool → List Bool
 shift_run [] N j x y a b P r = r
 shift_run (call ∷ calls) N j x y a b P r =
-    let s = input_shares x a call in
-    let s' = input_shares y b call in
+    let s = call_inputs x a call in
+    let s' = call_inputs y b call in
     let own = take (call_draws N call) r in
     let new = call_shift call calls N j P s s' own in
     new ++ shift_run calls N (suc j) x y (with_outputs N j (evaluation call s own) a) (with_outputs N j (evaluation call s' new) b) (places_behind (call_wires N call) P) (drop (call_draws N call) r)
@@ -47,14 +48,14 @@ length-call_shift call calls N j P s s' own = length-shift_from _ N call.circuit
 -- the shift of a tape in two parts
 shift_parts : (call : Call) (calls : List Call) (N j : ℕ) (x y : ℕ → Shares Bool) (a b : Outputs) (P : List ℕ) (own rest : List Bool) → length own ≡ call_draws N call →
     shift_run (call ∷ calls) N j x y a b P (own ++ rest)
-    ≡ call_shift call calls N j P (input_shares x a call) (input_shares y b call) own
-    ++ shift_run calls N (suc j) x y (with_outputs N j (evaluation call (input_shares x a call) own) a)
-    (with_outputs N j (evaluation call (input_shares y b call) (call_shift call calls N j P (input_shares x a call) (input_shares y b call) own)) b)
+    ≡ call_shift call calls N j P (call_inputs x a call) (call_inputs y b call) own
+    ++ shift_run calls N (suc j) x y (with_outputs N j (evaluation call (call_inputs x a call) own) a)
+    (with_outputs N j (evaluation call (call_inputs y b call) (call_shift call calls N j P (call_inputs x a call) (call_inputs y b call) own)) b)
     (places_behind (call_wires N call) P) rest
 shift_parts call calls N j x y a b P own rest long =
-    ap₂ (λ own rest. call_shift call calls N j P (input_shares x a call) (input_shares y b call) own
-    ++ shift_run calls N (suc j) x y (with_outputs N j (evaluation call (input_shares x a call) own) a)
-    (with_outputs N j (evaluation call (input_shares y b call) (call_shift call calls N j P (input_shares x a call) (input_shares y b call) own)) b)
+    ap₂ (λ own rest. call_shift call calls N j P (call_inputs x a call) (call_inputs y b call) own
+    ++ shift_run calls N (suc j) x y (with_outputs N j (evaluation call (call_inputs x a call) own) a)
+    (with_outputs N j (evaluation call (call_inputs y b call) (call_shift call calls N j P (call_inputs x a call) (call_inputs y b call) own)) b)
     (places_behind (call_wires N call) P) rest)
     (take_front (call_draws N call) own rest long) (drop_front (call_draws N call) own rest long)
 
@@ -65,8 +66,8 @@ sum_over_tapes-shift_run [] N j x y a b P f = refl
 sum_over_tapes-shift_run (call ∷ calls) N j x y a b P f =
     let d = call_draws N call in
     let m = run_draws calls N in
-    let s = input_shares x a call in
-    let s' = input_shares y b call in
+    let s = call_inputs x a call in
+    let s' = call_inputs y b call in
     let new = call_shift call calls N j P s s' in
     let shifted = λ (r : List Bool). f (shift_run (call ∷ calls) N j x y a b P r) in
     let rest_of = λ (own : List Bool). sum_over_tapes m (λ rest. f (own ++ rest)) in
@@ -85,15 +86,15 @@ sum_over_tapes-shift_run (call ∷ calls) N j x y a b P f =
 
 -- both sides have the same shares where these calls demand them
 abbrev pub SidesAgree : List Call → ℕ → List ℕ → List ℕ → (ℕ → Shares Bool) → (ℕ → Shares Bool) → Outputs → Outputs → Type 0
-SidesAgree calls N P counts x y a b = (s : Source) → IsThere counts s → (i : ℕ) → i < N → demanded calls N P s i ≡ true → source_shares x a s i ≡ source_shares y b s i
+SidesAgree calls N P counts x y a b = (s : Origin) → IsThere counts s → (i : ℕ) → i < N → demanded calls N P s i ≡ true → origin_shares x a s i ≡ origin_shares y b s i
 
 -- so has the need of a call the same input shares
 inputs_agree : (call : Call) (calls : List Call) (N j : ℕ) (P counts : List ℕ) (x y : ℕ → Shares Bool) (a b : Outputs) → 2 ≤ N → IsStrongCall counts call →
-    SidesAgree (call ∷ calls) N P counts x y a b → AgreeOn call.circuit N (need call.circuit N (call_probes call calls N j P)) (input_shares x a call) (input_shares y b call)
+    SidesAgree (call ∷ calls) N P counts x y a b → AgreeOn call.circuit N (need call.circuit N (call_probes call calls N j P)) (call_inputs x a call) (call_inputs y b call)
 inputs_agree call calls N j P counts x y a b two is agree v i within lt needed =
     let own = need call.circuit N (places_within (call_wires N call) P) in
-    agree (source_at call v) (All-get_or (IsThere counts) call.sources v (Public false) (omega (arith, is.sources)) is.there) i lt
-    (or_left (demanded_by call own (source_at call v) i) (demanded calls N (places_behind (call_wires N call) P) (source_at call v) i)
+    agree (origin_at call v) (All-get_or (IsThere counts) call.origins v (Public false) (omega (arith, is.origins)) is.there) i lt
+    (or_left (demanded_by call own (origin_at call v) i) (demanded calls N (places_behind (call_wires N call) P) (origin_at call v) i)
     (demanded_by-all call own v i within
     (sym (need_with_outputs call.circuit N (places_within (call_wires N call) P) (asked_of call calls N j P) two is.formed (strong_masked call.circuit is.strong) v i within) ∙ needed)))
 
@@ -149,7 +150,7 @@ outputs_kept call calls N j P counts s s' own two are few agree long k i lt belo
     let Q = call_probes call calls N j P in
     let zero_k : 0 + k ≡ k = omega arith in
     let here : Contains (probes_at c N Q) (output_at c k, Share i) =
-    subst (λ (S : List Place). Contains S (output_at c k, Share i)) (sym (asked_names c N within O two are.0.formed))
+    subst (λ (S : List CircuitWire). Contains S (output_at c k, Share i)) (sym (asked_names c N within O two are.0.formed))
     (Contains-append_right (probes_at c N within) (output_names N O c.outputs 0) (output_at c k, Share i)
     (output_names-all N O c.outputs 0 k i lt below (ap (λ z. O z i) zero_k ∙ asked))) in
     let demanded = need_from-probed (probes_at c N Q) c.gates c.inputs (output_at c k) i (probed_shares-from_Contains (probes_at c N Q) (output_at c k) i here) in
@@ -170,21 +171,21 @@ with_old N j call s own a l k i other = ap (λ (f : Shares Bool). f i) (cond-fal
 later_agree : (call : Call) (calls : List Call) (N j : ℕ) (P counts : List ℕ) (x y : ℕ → Shares Bool) (a b : Outputs) (own : List Bool) → 2 ≤ N →
     AreStrongCalls counts (call ∷ calls) → length P < N → length counts ≡ j → SidesAgree (call ∷ calls) N P counts x y a b → length own ≡ call_draws N call →
     SidesAgree calls N (places_behind (call_wires N call) P) (counts ++ length call.circuit.outputs ∷ []) x y
-    (with_outputs N j (evaluation call (input_shares x a call) own) a)
-    (with_outputs N j (evaluation call (input_shares y b call) (call_shift call calls N j P (input_shares x a call) (input_shares y b call) own)) b)
+    (with_outputs N j (evaluation call (call_inputs x a call) own) a)
+    (with_outputs N j (evaluation call (call_inputs y b call) (call_shift call calls N j P (call_inputs x a call) (call_inputs y b call) own)) b)
 later_agree call calls N j P counts x y a b own two are few number agree long = go
   where
     s : ℕ → Shares Bool
-    s = input_shares x a call
+    s = call_inputs x a call
 
     s' : ℕ → Shares Bool
-    s' = input_shares y b call
+    s' = call_inputs y b call
 
-    earlier : (t : Source) → IsThere counts t → (i : ℕ) → i < N → demanded calls N (places_behind (call_wires N call) P) t i ≡ true → source_shares x a t i ≡ source_shares y b t i
+    earlier : (t : Origin) → IsThere counts t → (i : ℕ) → i < N → demanded calls N (places_behind (call_wires N call) P) t i ≡ true → origin_shares x a t i ≡ origin_shares y b t i
     earlier t there i lt e = agree t there i lt (or_right _ (demanded calls N (places_behind (call_wires N call) P) t i) e)
 
-    go : (t : Source) → IsThere (counts ++ length call.circuit.outputs ∷ []) t → (i : ℕ) → i < N → demanded calls N (places_behind (call_wires N call) P) t i ≡ true →
-        source_shares x (with_outputs N j (evaluation call s own) a) t i ≡ source_shares y (with_outputs N j (evaluation call s' (call_shift call calls N j P s s' own)) b) t i
+    go : (t : Origin) → IsThere (counts ++ length call.circuit.outputs ∷ []) t → (i : ℕ) → i < N → demanded calls N (places_behind (call_wires N call) P) t i ≡ true →
+        origin_shares x (with_outputs N j (evaluation call s own) a) t i ≡ origin_shares y (with_outputs N j (evaluation call s' (call_shift call calls N j P s s' own)) b) t i
     go (Public bit) there i lt e = refl
     go (Variable v) there i lt e = earlier (Variable v) tt i lt e
     go (Output l k) there i lt e = at (cases_order l j)
@@ -213,9 +214,9 @@ wires_from calls N j x a r = flat_map (evaluation_wires N) (evaluations_from cal
 -- those of a tape in two parts
 wires_parts : (call : Call) (calls : List Call) (N j : ℕ) (x : ℕ → Shares Bool) (a : Outputs) (own rest : List Bool) → length own ≡ call_draws N call →
     wires_from (call ∷ calls) N j x a (own ++ rest)
-    ≡ wires bits call.circuit N (input_shares x a call) own ++ wires_from calls N (suc j) x (with_outputs N j (evaluation call (input_shares x a call) own) a) rest
+    ≡ wires bits call.circuit N (call_inputs x a call) own ++ wires_from calls N (suc j) x (with_outputs N j (evaluation call (call_inputs x a call) own) a) rest
 wires_parts call calls N j x a own rest long =
-    ap₂ (λ own rest. wires bits call.circuit N (input_shares x a call) own ++ wires_from calls N (suc j) x (with_outputs N j (evaluation call (input_shares x a call) own) a) rest)
+    ap₂ (λ own rest. wires bits call.circuit N (call_inputs x a call) own ++ wires_from calls N (suc j) x (with_outputs N j (evaluation call (call_inputs x a call) own) a) rest)
     (take_front (call_draws N call) own rest long) (drop_front (call_draws N call) own rest long)
 
 -- a circuit has as many wires whatever they carry
@@ -244,8 +245,8 @@ shift_run-keeps [] N j P counts x y a b r two are few number agree long p h = re
 shift_run-keeps (call ∷ calls) N j P counts x y a b r two are few number agree long p h =
     let d = call_draws N call in
     let w = call_wires N call in
-    let s = input_shares x a call in
-    let s' = input_shares y b call in
+    let s = call_inputs x a call in
+    let s' = call_inputs y b call in
     let own = take d r in
     let new = call_shift call calls N j P s s' own in
     let total : run_draws (call ∷ calls) N ≡ d + run_draws calls N = sum_by-cons (call_draws N) call calls in

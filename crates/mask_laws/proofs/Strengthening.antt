@@ -9,8 +9,9 @@ use Rattle.std.specs.declared.option.Option.{Option}
 use Rattle.mask_circuit.specs.declared.gates.Gate.{Gate}
 use Rattle.mask_circuit.specs.declared.gates.Gate.TheVariants.{Zero, One, Xor, Not, And, Ref}
 use Rattle.mask_circuit.specs.Netlist.{Netlist, IsWellFormed, AreGates}
-use Rattle.mask_circuit.specs.Wires.{Wire, Share}
-use Rattle.mask_circuit.specs.Expansion.{Place, names, wire_count}
+use Rattle.mask_circuit.specs.declared.gates.Wire.{Wire}
+use Rattle.mask_circuit.specs.declared.gates.Wire.TheVariants.{Share}
+use Rattle.mask_circuit.specs.Expansion.{CircuitWire, names, wire_count}
 use Rattle.mask_circuit.specs.Probing.{same_wire, size, HasAtMost, IsInner, IsSimulated, IsSNI, output_places}
 use Rattle.mask_circuit.specs.Need.{ShareSet, inner_probes, probed_shares, demand, need_from, need, probes_at}
 use Rattle.mask_circuit.specs.Acceptance.{gate_at, Reaches, Input, ProductHere, RefreshHere, IsAccepted, IsStrong, output_at}
@@ -58,16 +59,16 @@ IsMasked (Some (And u v)) = Unit {0}
 IsMasked (Some (Ref u)) = Unit {0}
 
 -- S are shares of values that products and refreshes make: none is an inner wire
-pub record AreMasked (c : Netlist) (S : List Place) : Type 0 where
+pub record AreMasked (c : Netlist) (S : List CircuitWire) : Type 0 where
   pub shares : (m : ℕ) → inner_probes m S ≡ []
   pub masked : (m i : ℕ) → probed_shares S m i ≡ true → IsMasked (gate_at c m)
 
 -- so no other gate has any of them
-unasked : (c : Netlist) (S : List Place) (m i : ℕ) (g : Option Gate) → AreMasked c S → gate_at c m ≡ g → (IsMasked g → ⊥) → probed_shares S m i ≡ false
+unasked : (c : Netlist) (S : List CircuitWire) (m i : ℕ) (g : Option Gate) → AreMasked c S → gate_at c m ≡ g → (IsMasked g → ⊥) → probed_shares S m i ≡ false
 unasked c S m i g are is other = false_from_ne_true (probed_shares S m i) (λ asked. other (subst IsMasked is (are.masked m i asked)))
 
 -- to ask for them beside P makes no gate demand more
-demand_asked : (c : Netlist) (S : List Place) (g : Gate) (n : ℕ) (Q : List Wire) (O : ShareSet) (v i : ℕ) → AreMasked c S → gate_at c n ≡ Some g →
+demand_asked : (c : Netlist) (S : List CircuitWire) (g : Gate) (n : ℕ) (Q : List Wire) (O : ShareSet) (v i : ℕ) → AreMasked c S → gate_at c n ≡ Some g →
     demand g Q (λ j. O j || probed_shares S n j) v i ≡ demand g Q O v i
 demand_asked c S Zero n Q O v i are is = refl
 demand_asked c S One n Q O v i are is = refl
@@ -79,11 +80,11 @@ demand_asked c S (And u w) n Q O v i are is = refl
 demand_asked c S (Ref u) n Q O v i are is = refl
 
 -- the inner probes stay those of P
-inner_asked : (c : Netlist) (P S : List Place) (n : ℕ) → AreMasked c S → inner_probes n (P ++ S) ≡ inner_probes n P
+inner_asked : (c : Netlist) (P S : List CircuitWire) (n : ℕ) → AreMasked c S → inner_probes n (P ++ S) ≡ inner_probes n P
 inner_asked c P S n are = inner_probes-append n P S ∙ ap (λ Q. inner_probes n P ++ Q) (are.shares n) ∙ append-nil (inner_probes n P)
 
 -- what is demanded beside P is what is asked for, and nothing further
-pub need_asked : (c : Netlist) (P S : List Place) (gs : List Gate) (n v i : ℕ) → AreMasked c S → AreGatesAt c gs n →
+pub need_asked : (c : Netlist) (P S : List CircuitWire) (gs : List Gate) (n v i : ℕ) → AreMasked c S → AreGatesAt c gs n →
     need_from (P ++ S) gs n v i ≡ (need_from P gs n v i || probed_shares S v i)
 need_asked c P S [] n v i are at = list_any-append (λ p. p.0 == v && same_wire (Share i) p.1) P S
 need_asked c P S (g ∷ gs) n v i are at =
@@ -95,11 +96,11 @@ need_asked c P S (g ∷ gs) n v i are at =
     ∙ or_turn (need_from P gs (suc n) v i) (probed_shares S v i) (demand g (inner_probes n P) (need_from P gs (suc n) n) v i)
 
 -- the shares that are asked for of each value leave room for as many probes as P has
-abbrev pub HasRoom : ℕ → List Place → List Place → Type 0
+abbrev pub HasRoom : ℕ → List CircuitWire → List CircuitWire → Type 0
 HasRoom N P S = (m : ℕ) → length P + size N (probed_shares S m) < N
 
 -- at a source the count of P leaves room for what is asked for ..
-fits_source : (c : Netlist) (N : ℕ) (P S : List Place) (g : Gate) (gs : List Gate) (n : ℕ) → IsAccepted c → AreMasked c S → HasRoom N P S →
+fits_source : (c : Netlist) (N : ℕ) (P S : List CircuitWire) (g : Gate) (gs : List Gate) (n : ℕ) → IsAccepted c → AreMasked c S → HasRoom N P S →
     AreGatesAt c gs (suc n) → AreGates (suc n) gs → Reaches c n n → FitsGate N (inner_probes n (P ++ S)) (need_from (P ++ S) gs (suc n) n)
 fits_source c N P S g gs n accepted asked room at are source =
     let count = source_count c N P accepted gs (suc n) at are n source in
@@ -111,7 +112,7 @@ fits_source c N P S g gs n accepted asked room at are source =
     omega arith
 
 -- .. so each gate has it
-fits_at : (c : Netlist) (N : ℕ) (P S : List Place) (g : Gate) (gs : List Gate) (n : ℕ) → IsAccepted c → AreMasked c S → HasRoom N P S → gate_at c n ≡ Some g →
+fits_at : (c : Netlist) (N : ℕ) (P S : List CircuitWire) (g : Gate) (gs : List Gate) (n : ℕ) → IsAccepted c → AreMasked c S → HasRoom N P S → gate_at c n ≡ Some g →
     AreGatesAt c gs (suc n) → AreGates (suc n) gs → FitsAt N g (inner_probes n (P ++ S)) (need_from (P ++ S) gs (suc n) n)
 fits_at c N P S Zero gs n accepted asked room is at are = tt
 fits_at c N P S One gs n accepted asked room is at are = tt
@@ -121,14 +122,14 @@ fits_at c N P S (And u v) gs n accepted asked room is at are = fits_source c N P
 fits_at c N P S (Ref u) gs n accepted asked room is at are = fits_source c N P S (Ref u) gs n accepted asked room at are (RefreshHere is)
 
 -- With room for what is asked for, the list with it fits.
-pub fits_asked : (c : Netlist) (N : ℕ) (P S : List Place) (gs : List Gate) (n : ℕ) → IsAccepted c → AreMasked c S → HasRoom N P S →
+pub fits_asked : (c : Netlist) (N : ℕ) (P S : List CircuitWire) (gs : List Gate) (n : ℕ) → IsAccepted c → AreMasked c S → HasRoom N P S →
     AreGatesAt c gs n → AreGates n gs → FitsFrom N (P ++ S) gs n
 fits_asked c N P S [] n accepted asked room at are = tt
 fits_asked c N P S (g ∷ gs) n accepted asked room at are =
     (fits_at c N P S g gs n accepted asked room at.0 at.1 are.1, fits_asked c N P S gs (suc n) accepted asked room at.1 are.1)
 
 -- and of the inputs nothing further is demanded
-pub inputs_asked : (c : Netlist) (P S : List Place) (v i : ℕ) → AreMasked c S → v < c.inputs → need_from (P ++ S) c.gates c.inputs v i ≡ need_from P c.gates c.inputs v i
+pub inputs_asked : (c : Netlist) (P S : List CircuitWire) (v i : ℕ) → AreMasked c S → v < c.inputs → need_from (P ++ S) c.gates c.inputs v i ≡ need_from P c.gates c.inputs v i
 inputs_asked c P S v i asked lt =
     need_asked c P S c.gates c.inputs v i asked (AreGatesAt-all c)
     ∙ ap (λ b. need_from P c.gates c.inputs v i || b) (unasked c S v i None asked (gate_at_input c v lt) (λ h. h))
@@ -167,11 +168,11 @@ outputs_apart c has j k one two same = elim (cases_order j k) [
 ]
 
 -- so where each set of shares leaves room, all that is asked for does
-outputs_room : (c : Netlist) (N : ℕ) (P : List Place) (O : ℕ → ℕ → Bool) → HasMaskedOutputs c → length P < N →
+outputs_room : (c : Netlist) (N : ℕ) (P : List CircuitWire) (O : ℕ → ℕ → Bool) → HasMaskedOutputs c → length P < N →
     ((k : ℕ) → k < length c.outputs → length P + size N (O k) < N) → HasRoom N P (output_names N O c.outputs 0)
 outputs_room c N P O has few room m = go (size_cases N (probed_shares S m))
   where
-    S : List Place
+    S : List CircuitWire
     S = output_names N O c.outputs 0
 
     go : (size N (probed_shares S m) ≡ 0) ⊎ ((i : ℕ) × (i < N) × (probed_shares S m i ≡ true)) → length P + size N (probed_shares S m) < N

@@ -4,7 +4,9 @@ use Rattle.mask_circuit.specs.declared.gates.Gate.{Gate}
 use Rattle.mask_circuit.specs.declared.gates.Gate.TheVariants.{And, Ref}
 use Rattle.mask_circuit.specs.Netlist.{Netlist}
 use Rattle.mask_circuit.specs.Ring.{bits}
-use Rattle.mask_circuit.specs.Wires.{Wire, Share, Shares, gate_names, gate_draws, gate_wire}
+use Rattle.mask_circuit.specs.declared.gates.Wire.{Wire}
+use Rattle.mask_circuit.specs.declared.gates.Wire.TheVariants.{Share}
+use Rattle.mask_circuit.specs.Wires.{Shares, gate_names, gate_draws, gate_wire}
 use Rattle.mask_circuit.specs.Probing.{size, IsSNI}
 use Rattle.mask_circuit.specs.Need.{ShareSet, is_share, demand}
 use Rattle.mask_circuit.specs.Shift.{gate_mask, add_bits}

@@ -3,7 +3,9 @@ use Rattle.std.specs.Prelude.{◌≡◌, ℕ, ◌+◌, ◌<◌, ◌≤◌, Bool,
 use Rattle.mask_circuit.specs.declared.gates.Gate.{Gate}
 use Rattle.mask_circuit.specs.Netlist.{Netlist, AreGates, value_count}
 use Rattle.mask_circuit.specs.Ring.{Ring, bits, words}
-use Rattle.mask_circuit.specs.Wires.{Wire, Share, Shares, gate_draws, gate_wire, share_wire}
+use Rattle.mask_circuit.specs.declared.gates.Wire.{Wire}
+use Rattle.mask_circuit.specs.declared.gates.Wire.TheVariants.{Share}
+use Rattle.mask_circuit.specs.Wires.{Shares, gate_draws, gate_wire, share_wire}
 use Rattle.mask_circuit.specs.Expansion.{expand, shares_of, names, names_of, wires_before, wire_count}
 use Rattle.mask_circuit.specs.Probing.{share_place}
 

@@ -4,11 +4,11 @@ use Rattle.mask_circuit.specs.Netlist.{Netlist, IsWellFormed}
 use Rattle.mask_circuit.specs.Probing.{size, HasAtMost, IsSimulated, output_places, IsSNI}
 use Rattle.mask_circuit.specs.Need.{need}
 use Rattle.mask_circuit.specs.Acceptance.{IsStrong}
-use Rattle.mask_laws.specs.Circuits.{ArePlaces}
+use Rattle.mask_laws.specs.Circuits.{AreWireNumbers}
 
 -- the wires P, and the sets O of shares of each output, are as many as strong non-interference allows
 pub record AreAllowed (c : Netlist) (N : ℕ) (P : List ℕ) (O : ℕ → ℕ → Bool) : Type 0 where
-  pub wires : ArePlaces c N P
+  pub wires : AreWireNumbers c N P
   pub few : length P < N
   pub fewer : (k : ℕ) → k < length c.outputs → length P + size N (O k) < N
 

@@ -6,7 +6,7 @@ use Rattle.std.specs.declared.option.Option.{Option}
 use Rattle.mask_circuit.specs.Netlist.{Netlist}
 use Rattle.mask_circuit.specs.Expansion.{wire_count}
 use Rattle.mask_circuit.specs.Acceptance.{IsAccepted}
-use Rattle.mask_laws.specs.Circuits.{ArePlaces}
+use Rattle.mask_laws.specs.Circuits.{AreWireNumbers}
 use Rattle.mask_probe.specs.Asking.{AreProbes}
 use Rattle.mask_run.specs.declared.status.Status.{Status}
 use Rattle.mask_run.specs.declared.status.Status.TheVariants.{Done, Refused, BadProbe, ReadFault, WriteFault, NoMemory}
@@ -17,7 +17,7 @@ use Rattle.mask_run.proofs.TextLaws.{along, circuit_unrefused, refused_due, refu
 use Rattle.mask_run.proofs.Judging.{same_refusal, no_clash}
 
 -- a place that fails stands no earlier than one up to which all pass
-not_before : (c : Netlist) (N : ℕ) (W : List ℕ) (k l : ℕ) → ArePlaces c N (take l W) → l < length W → wire_count c N ≤ slice_index W k → k < l → ⊥
+not_before : (c : Netlist) (N : ℕ) (W : List ℕ) (k l : ℕ) → AreWireNumbers c N (take l W) → l < length W → wire_count c N ≤ slice_index W k → k < l → ⊥
 not_before c N W k l pass within fail lt =
     let count : length (take l W) ≡ l = length-take-le l W (omega arith) in
     let good = pass k 0 (omega arith) in

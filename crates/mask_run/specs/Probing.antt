@@ -9,7 +9,7 @@ use Rattle.mask_circuit.specs.Probing.{HasAtMost, IsSimulated}
 use Rattle.mask_circuit.specs.Need.{ShareSet, need}
 use Rattle.mask_circuit.specs.Acceptance.{IsAccepted, IsClash}
 use Rattle.mask_circuit.specs.Text.{spaced}
-use Rattle.mask_laws.specs.Circuits.{ArePlaces}
+use Rattle.mask_laws.specs.Circuits.{AreWireNumbers}
 use Rattle.mask_sni.specs.Asked.{members}
 use Rattle.mask_probe.specs.Asking.{AreProbes}
 use Rattle.mask_words.specs.WordTests.{Word, number_of}
@@ -50,7 +50,7 @@ pub record IsNeedReport (c : Netlist) (N : ℕ) (W : List ℕ) (report : List �
 -- The word at this place is the first WIRE too many; or they aren't too many, and it is the first that names no wire.
 abbrev pub IsBadProbe : Netlist → ℕ → List ℕ → ℕ → Type 0
 IsBadProbe c N W place = ((N ≤ length W) × (place ≡ N + 4))
-    ⊎ ((k : ℕ) × (length W < N) × (k < length W) × (wire_count c N ≤ slice_index W k) × ArePlaces c N (take k W) × (place ≡ k + 5))
+    ⊎ ((k : ℕ) × (length W < N) × (k < length W) × (wire_count c N ≤ slice_index W k) × AreWireNumbers c N (take k W) × (place ≡ k + 5))
 
 -- why there is no report on these wires of an accepted circuit
 abbrev pub RefusesProbes : Netlist → ℕ → List ℕ → Status → Type 0

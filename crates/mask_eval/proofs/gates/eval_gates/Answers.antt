@@ -4,9 +4,10 @@ use Rattle.std.proofs.lemmas.List.Sums.{sum_by-drop_more}
 use Rattle.mask_circuit.specs.declared.gates.Gate.{Gate}
 use Rattle.mask_circuit.specs.declared.gates.Gate.TheVariants.{Zero}
 use Rattle.mask_circuit.specs.Ring.{words}
-use Rattle.mask_circuit.specs.Wires.{Share, gate_draws, gate_names}
+use Rattle.mask_circuit.specs.declared.gates.Wire.TheVariants.{Share}
+use Rattle.mask_circuit.specs.Wires.{gate_draws, gate_names}
 use Rattle.mask_circuit.specs.Netlist.{AreGates, OperandsBelow}
-use Rattle.mask_circuit.specs.Expansion.{Trace, shares_of, start, run}
+use Rattle.mask_circuit.specs.Expansion.{Carried, shares_of, start, run}
 use Rattle.mask_shares.specs.Sharing.{all_listed}
 use Rattle.mask_tape.specs.Drawn.{Drawn, left as left_of}
 use Rattle.mask_gadget.specs.Wiring.{told_more}
@@ -64,7 +65,7 @@ loop-k-preserved g c =
     let coins = g.W.Wiring.drawn c.loop-k.coins in
     let after = g.W.Wiring.drawn c.gate_on-shares.new.coins in
     let first = g.W.Wiring.drawn c.args.coins.now in
-    let all : Trace ℕ = run words N c.args.gates.now c.args.inputs (start words (all_listed words (map (map g.W.Wiring.carried) c.args.values.now))) (drop first.used first.words) in
+    let all : Carried ℕ = run words N c.args.gates.now c.args.inputs (start words (all_listed words (map (map g.W.Wiring.carried) c.args.values.now))) (drop first.used first.words) in
     let more = drop_more c.args.gates.now c.loop-k.k Zero c.loop-k-test.true in
     let next : c.args.inputs + (c.loop-k.k + 1) ≡ suc (c.args.inputs + c.loop-k.k) = omega arith in
     let are : AreGates n (gate ∷ rest) = subst (λ (gs : List Gate). AreGates n gs) more c.loop-k.invariant.gates in
@@ -111,7 +112,7 @@ returns-clause-shares g c u i lu li =
     ap (λ (gs : List Gate). run words N gs (c.args.inputs + c.loop-k.k) (start words (all_listed words (map (map g.W.Wiring.carried) c.loop-k.values)))
     (drop coins.used coins.words) u (Share i)) (sym none)
     ∙ c.loop-k.invariant.shares u i lu li
-    ∙ ap (λ (T : Trace ℕ). T u (Share i))
+    ∙ ap (λ (T : Carried ℕ). T u (Share i))
     (sym (run-take words N c.args.gates.now c.args.inputs (start words (all_listed words (map (map g.W.Wiring.carried) c.args.values.now))) (drop first.used first.words)))
 
 pub returns-clause-told : goal.returns-clause-told

@@ -2,7 +2,8 @@ use Rattle.std.proofs.Common.{◌≡◌, ℕ, ◌+◌, ◌≤◌, List, length, 
 use Rattle.mask_circuit.specs.declared.gates.Gate.{Gate}
 use Rattle.mask_circuit.specs.Netlist.{Netlist, AreGates}
 use Rattle.mask_circuit.specs.Ring.{words}
-use Rattle.mask_circuit.specs.Wires.{Share, gate_draws, gate_names}
+use Rattle.mask_circuit.specs.declared.gates.Wire.TheVariants.{Share}
+use Rattle.mask_circuit.specs.Wires.{gate_draws, gate_names}
 use Rattle.mask_circuit.specs.Expansion.{start, run}
 use Rattle.mask_shares.specs.Sharing.{all_listed}
 use Rattle.mask_tape.specs.Drawn.{ahead, left as left_of}

@@ -3,7 +3,7 @@ use Rattle.mask_circuit.specs.declared.gates.Gate.TheVariants.{And}
 use Rattle.mask_circuit.specs.Ring.{words}
 use Rattle.mask_circuit.specs.Wires.{gate_out, gate_wires}
 use Rattle.mask_bits.specs.Lanes.{lane}
-use Rattle.mask_laws.proofs.PairNumbers.{small, length-pairs}
+use Rattle.mask_circuit.proofs.PairNumbers.{small, length-pairs}
 use Rattle.mask_shares.specs.Sharing.{all_listed}
 use Rattle.mask_gadget.specs.Gadgets.{coins_of}
 use Rattle.mask_gadget.proofs.Lanes.{out_of_words, wires_of_words, length-lane}

@@ -2,7 +2,8 @@ use Rattle.std.proofs.Common.{◌≡◌, ℕ, ◌<◌, Bool, true, false, cond, 
 use Rattle.std.proofs.lemmas.List.{get_or-map}
 use Rattle.mask_circuit.specs.declared.gates.Gate.TheVariants.{Zero, One, Xor, Not}
 use Rattle.mask_circuit.specs.Ring.{words}
-use Rattle.mask_circuit.specs.Wires.{Share, on_first, gate_wire, gate_out}
+use Rattle.mask_circuit.specs.declared.gates.Wire.TheVariants.{Share}
+use Rattle.mask_circuit.specs.Wires.{on_first, gate_wire, gate_out}
 use Rattle.mask_circuit.proofs.Places.{length-each}
 use Rattle.mask_shares.specs.Sharing.{all_listed}
 use Rattle.mask_shares.proofs.Lists.{each-same}

@@ -1,7 +1,8 @@
 use Rattle.std.proofs.Common.{◌<◌, [], ◌∷◌, length, map, get_or, bit_xor, arith, ◌∙◌, ap, ap₂, sym}
 use Rattle.mask_circuit.specs.declared.gates.Gate.TheVariants.{Xor}
 use Rattle.mask_circuit.specs.Ring.{words}
-use Rattle.mask_circuit.specs.Wires.{Share, gate_wire}
+use Rattle.mask_circuit.specs.declared.gates.Wire.TheVariants.{Share}
+use Rattle.mask_circuit.specs.Wires.{gate_wire}
 use Rattle.mask_shares.specs.Sharing.{all_listed}
 use Rattle.mask_gadget.specs.Wiring.{told_more}
 use Rattle.mask_gadget.proofs.Made.{map-each}

@@ -2,7 +2,7 @@ use Rattle.std.proofs.Common.{◌≡◌, suc, ◌+◌, ◌-◌, length, refl, ar
 use Rattle.mask_circuit.specs.Ring.{words}
 use Rattle.mask_circuit.specs.Wires.{product_wire}
 use Rattle.mask_gadget.specs.Gadgets.{pair_coin, pair_row}
-use Rattle.mask_laws.proofs.PairNumbers.{length-pairs, pairs_before-all, pairs_before-more}
+use Rattle.mask_circuit.proofs.PairNumbers.{length-pairs, pairs_before-all, pairs_before-more}
 use Rattle.mask_gadget.proofs.Pairs.{row_within, next_row}
 use Rattle.mask_gadget.proofs.Sizes.{row_fits, square_fits}
 use Rattle.mask_gadget.proofs.Telling.{told_more-none, told_joined}

@@ -1,6 +1,7 @@
 use Rattle.std.proofs.Common.{ℕ, map, get_or, arith, ◌∙◌, sym}
 use Rattle.mask_circuit.specs.Ring.{words}
-use Rattle.mask_circuit.specs.Wires.{Share, product_wire}
+use Rattle.mask_circuit.specs.declared.gates.Wire.TheVariants.{Share}
+use Rattle.mask_circuit.specs.Wires.{product_wire}
 use Rattle.mask_gadget.specs.Wiring.{cell}
 use Rattle.mask_gadget.specs.Gadgets.{pair_coin}
 use Rattle.mask_gadget.proofs.Made.{map-each}

@@ -3,7 +3,8 @@ use Rattle.std.proofs.Math.Nat.{mul-le-mul_right}
 use Rattle.std.proofs.lemmas.List.{length-map, length-set, map-set}
 use Rattle.std.proofs.lemmas.List.Edits.{fill_by_more}
 use Rattle.mask_circuit.specs.Ring.{words}
-use Rattle.mask_circuit.specs.Wires.{Share, product_wire}
+use Rattle.mask_circuit.specs.declared.gates.Wire.TheVariants.{Share}
+use Rattle.mask_circuit.specs.Wires.{product_wire}
 use Rattle.mask_shares.proofs.Lists.{is_each}
 use Rattle.mask_gadget.specs.Wiring.{told_more, cell}
 use Rattle.mask_gadget.specs.Gadgets.{row_names}

@@ -1,6 +1,7 @@
 use Rattle.std.proofs.Common.{◌≡◌, ℕ, suc, ◌+◌, ◌-◌, ◌*◌, ◌<◌, ◌≤◌, length, map, get_or}
 use Rattle.mask_circuit.specs.Ring.{words}
-use Rattle.mask_circuit.specs.Wires.{Shares, Share, joined, product_wire}
+use Rattle.mask_circuit.specs.declared.gates.Wire.TheVariants.{Share}
+use Rattle.mask_circuit.specs.Wires.{Shares, joined, product_wire}
 use Rattle.mask_gadget.specs.Wiring.{told_more, cell}
 use Rattle.mask_gadget.specs.Gadgets.{Mixed, row_names}
 use Rattle.mask_gadget.proofs.product.sum_rows.Given as goal

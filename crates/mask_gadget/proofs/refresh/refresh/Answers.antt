@@ -1,13 +1,15 @@
 use Rattle.std.proofs.Common.{ℕ, suc, ◌-◌, length, map, refl, arith, ◌∙◌, ap, sym}
 use Rattle.std.proofs.lemmas.List.{length-map}
 use Rattle.mask_circuit.specs.Ring.{words}
-use Rattle.mask_circuit.specs.Wires.{Wire, Share, refresh_wire}
+use Rattle.mask_circuit.specs.declared.gates.Wire.{Wire}
+use Rattle.mask_circuit.specs.declared.gates.Wire.TheVariants.{Share}
+use Rattle.mask_circuit.specs.Wires.{refresh_wire}
 use Rattle.mask_shares.specs.Sharing.{listed}
 use Rattle.mask_shares.proofs.Lists.{is_each}
 use Rattle.mask_gadget.specs.Wiring.{told_more}
 use Rattle.mask_gadget.specs.Gadgets.{pair_coin, update_row}
 use Rattle.mask_gadget.proofs.Made.{map-each}
-use Rattle.mask_laws.proofs.PairNumbers.{length-pairs, pairs_before-all, pairs_before-more}
+use Rattle.mask_circuit.proofs.PairNumbers.{length-pairs, pairs_before-all, pairs_before-more}
 use Rattle.mask_gadget.proofs.Pairs.{row_within, next_row}
 use Rattle.mask_gadget.proofs.Refreshes.{none_done, all_done, all_updates, refresh_count}
 use Rattle.mask_gadget.proofs.Sizes.{row_fits}

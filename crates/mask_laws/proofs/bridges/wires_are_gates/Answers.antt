@@ -1,4 +1,4 @@
-use Rattle.mask_laws.proofs.Traces.{wires_are_gates}
+use Rattle.mask_laws.proofs.Carrying.{wires_are_gates}
 use Rattle.mask_laws.proofs.bridges.wires_are_gates.Goals as goal
 
 pub returns : goal.returns

@@ -35,5 +35,6 @@ loop-left-preserved g c =
           (demanded_next c.circuit-circuit.result.now g.row.N (places_of c.circuit-circuit.result.now g.row.N c.args.placed.now) (c.loop-left.left - 1) c.loop-left.sets.items _ here
           (subst (λ (k : ℕ). AreDemanded c.circuit-circuit.result.now g.row.N (places_of c.circuit-circuit.result.now g.row.N c.args.placed.now) k c.loop-left.sets.items) e c.loop-left.invariant.so_far)
           (c.pass_on.auto.sets ∙ ap length c.deref_mut.ensures.value)
-          (rw (c.inputs.ensures, c.gates-gates.ensures.same, c.deref_mut.ensures.value) at c.pass_on.ensures));
+          (rw (c.inputs.ensures, c.gates-gates.ensures.same, c.deref_mut.ensures.value) at c.pass_on.ensures.shares)
+          (rw c.deref_mut.ensures.value at c.pass_on.ensures.within));
     }

@@ -2,7 +2,7 @@
 
 /// The part of the text in which the next line stands.
 #[derive(Clone, Copy, PartialEq, Eq)]
-pub enum Place {
+pub enum Section {
     /// Before the header.
     Start,
     /// Version 1, before the number of inputs.
