@@ -11,6 +11,7 @@ ghost use Rattle.mask_gadget.specs.Wiring.{told_more, cell, IsSquare};
 ghost use Rattle.mask_gadget.specs.Gadgets.{IsAtRow, Mixed, coins_of, pair_coin, pair_row, row_names};
 
 use crate::wiring::Wiring;
+use mask_circuit::other;
 
 /// The product of two values.
 ///
@@ -177,12 +178,4 @@ fn sum_row<const N: usize, W: Wiring>(row: &[W::Word; N], i: usize, wires: &mut 
         sum = wires.xor(sum, row[other(i, m)]);
     }
     sum
-}
-
-// The share that comes m-th among all but share `i`, from 0.
-fn other(i: usize, m: usize) -> usize
-    requires { m < usize.MAX }
-    ensures { result ≡ other i m }
-{
-    if m < i { m } else { m + 1 }
 }

@@ -29,7 +29,7 @@ refreshed_product = record { inputs = 2; gates = And 0 1 ∷ Ref 2 ∷ []; outpu
 
 -- a run of it that takes one variable for both inputs
 abbrev pub taken_twice : List Call
-taken_twice = record { circuit = refreshed_product; sources = Variable 0 ∷ Variable 0 ∷ [] } ∷ []
+taken_twice = record { circuit = refreshed_product; origins = Variable 0 ∷ Variable 0 ∷ [] } ∷ []
 
 -- The circuit is strong, but in this run its wire a_0 · b_1 isn't simulated from one share of the variable, and the run
 -- isn't private.

@@ -23,7 +23,7 @@ loop-m-preserved g c =
     let sum : W.carried c.xor-sum.result ≡ row_sum words first term c.args.i (other c.args.i c.loop-m.m) =
     partner_more first term c.args.i c.loop-m.m (W.carried c.loop-m.sum) (W.carried c.xor-sum.result) c.loop-m.invariant.sum
     (c.xor-sum.ensures.value
-    ∙ ap (bit_xor (W.carried c.loop-m.sum)) (word_read W.carried c.args.row.now c.other.result c.index-row-other.result within ∙ ap term c.other.ensures)) in
+    ∙ ap (bit_xor (W.carried c.loop-m.sum)) (word_read W.carried c.args.row.now c.other.result c.index-row-other.result within ∙ ap term c.other.ensures.partner)) in
     record {
       sum = rw (add-one c.loop-m.m) sum;
       told = told_each (W.told c.args.wires.now) (W.told c.loop-m.wires) _ (λ m. row_sum words first term c.args.i (other c.args.i m)) c.loop-m.m
