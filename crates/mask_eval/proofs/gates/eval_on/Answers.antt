@@ -28,7 +28,7 @@ eval_gates-requires g c =
     let inputs : c.inputs-inputs.result ≡ c.args.circuit.now.inputs = c.inputs-inputs.ensures ∙ ap (λ (n : Netlist). n.inputs) c.circuit-circuit.ensures.same in
     let gates : c.gates.result.now ≡ c.args.circuit.now.gates = c.gates.ensures.same ∙ ap (λ (n : Netlist). n.gates) c.circuit-circuit.ensures.same in
     let are : AreGates c.inputs-inputs.result c.gates.result.now =
-    subst (λ (n : ℕ). AreGates n c.gates.result.now) (sym inputs) (subst (AreGates c.args.circuit.now.inputs) (sym gates) c.circuit-circuit.ensures.circuit.gates) in
+    subst (λ (n : ℕ). AreGates n c.gates.result.now) (sym inputs) (subst (AreGates c.args.circuit.now.inputs) (sym gates) c.circuit-circuit.ensures.circuit.formed.gates) in
     let values : length c.args.values.now ≡ c.inputs-inputs.result + length c.gates.result.now = rw (inputs, gates) c.requires.values in
     let coins : sum_by (gate_draws g.row.N) c.gates.result.now ≤ left_of (g.W.Wiring.drawn c.args.coins.now) = rw gates c.requires.coins in
     let most : sum_by (λ g'. length (gate_names g.row.N g')) c.args.circuit.now.gates ≤ g.W.Wiring.room c.args.wires.now =
