@@ -6,3 +6,4 @@ pub mod Numbering
 pub mod PairNumbers
 pub mod Places
 pub mod Plain
+pub mod PrivacyExamples

@@ -2,7 +2,7 @@
 use Rattle.std.proofs.Common.{◌≡◌, ℕ, suc, ◌<◌, ◌≤◌, Bool, true, false, cond, ◌==◌, List, [], ◌∷◌, length, map, take, drop, get_or, fold, sum_by, All, refl, ap, ap₂, sym, subst, ◌∙◌, arith}
 use Rattle.std.proofs.Math.Path.{fun_ext}
 use Rattle.std.proofs.lemmas.Simd.{map-map}
-use Rattle.std.proofs.lemmas.List.{take-map, drop-map, get_or-map, get_or-take, ext_get_or}
+use Rattle.std.proofs.lemmas.List.{take-map, drop-map, get_or-map, get_or-take, ext_get_or, map-id}
 use Rattle.mask_bits.specs.Reading.{bit}
 use Rattle.mask_bits.specs.Lanes.{lane}
 use Rattle.mask_circuit.specs.declared.gates.Gate.{Gate}
@@ -86,7 +86,7 @@ pub outs_held : (c : Netlist) (N : ℕ) (old new outputs : List (List ℕ)) (r :
     outputs ≡ map (λ u. get_or new u []) c.outputs → All (λ v. length v ≡ N) outputs →
     SameShares N (value_count c) (all_listed words new) (shares_of (run words N c.gates c.inputs (start words (all_listed words old)) r)) →
     outputs ≡ outs words c N (all_listed words (take c.inputs old)) r
-outs_held c N old new outputs r is copied counts same = copied ∙ go c.outputs is.outputs (subst (λ (vs : List (List ℕ)). All (λ v. length v ≡ N) vs) copied counts)
+outs_held c N old new outputs r is copied counts same = copied ∙ go c.outputs is.formed.outputs (subst (λ (vs : List (List ℕ)). All (λ v. length v ≡ N) vs) copied counts)
   where
     inputs : SameShares N c.inputs (all_listed words old) (all_listed words (take c.inputs old))
     inputs u i lu li = ap (λ (v : List ℕ). listed words v i) (sym (get_or-take c.inputs old u [] lu))
@@ -95,7 +95,7 @@ outs_held c N old new outputs r is copied counts same = copied ∙ go c.outputs 
     value u lu count =
         is_each _ N (get_or new u []) count
         (λ i li. same u i lu li
-        ∙ run-same words N c.gates c.inputs (start words (all_listed words old)) (start words (all_listed words (take c.inputs old))) r is.gates inputs u i lu li)
+        ∙ run-same words N c.gates c.inputs (start words (all_listed words old)) (start words (all_listed words (take c.inputs old))) r is.formed.gates inputs u i lu li)
 
     go : (us : List ℕ) → All (λ u. u < value_count c) us → All (λ v. length v ≡ N) (map (λ u. get_or new u []) us) →
         map (λ u. get_or new u []) us ≡ map (λ u. each (shares_of (expand words c N (all_listed words (take c.inputs old)) r) u) N) us
@@ -104,14 +104,18 @@ outs_held c N old new outputs r is copied counts same = copied ∙ go c.outputs 
         ap₂ (λ (y : List ℕ) (z : List (List ℕ)). y ∷ z) (value u (below 0 0 (omega arith)) (counts 0 [] (omega arith)))
         (go us (λ k d l. below (suc k) d (omega arith)) (λ k d l. counts (suc k) d (omega arith)))
 
+-- values whose words carry themselves
+same_values : (values : List (List ℕ)) → map (map (λ w. w)) values ≡ values
+same_values values = ap (λ (f : List ℕ → List ℕ). map f values) (fun_ext (λ v. map-id v)) ∙ map-id values
+
 -- the same of a frame, where the parts are given otherwise
-pub outputs_of_frame : (c : Netlist) (N : ℕ) (frame : Held) (gates : List Gate) (numbers : List ℕ) (inputs : ℕ) (old new seen copies : List (List ℕ))
-    (coins : Drawn) → IsCircuit c → IsFrameOf frame c → gates ≡ c.gates → numbers ≡ c.outputs → inputs ≡ frame.inputs → old ≡ frame.values → seen ≡ new →
+pub outputs_of_frame : (c : Netlist) (N : ℕ) (frame : Held) (numbers : List ℕ) (old new seen copies : List (List ℕ)) (coins : Drawn) →
+    IsCircuit c → IsFrameOf frame c → numbers ≡ c.outputs → old ≡ frame.values → seen ≡ new →
     copies ≡ map (λ u. get_or seen u []) numbers → All (λ v. length v ≡ N) copies →
-    SameShares N (length old) (all_listed words new)
-    (shares_of (run words N gates inputs (start words (all_listed words old)) (ahead (sum_by (gate_draws N) gates) coins))) →
+    SameShares N (value_count c) (all_listed words (map (map (λ w. w)) new))
+    (shares_of (expand words c N (all_listed words (map (map (λ w. w)) old)) (ahead (draws c N) coins))) →
     copies ≡ outs words c N (all_listed words (input_values frame)) (ahead (draws c N) coins)
-outputs_of_frame c N frame gates numbers inputs old new seen copies coins is fits gates_are numbers_are inputs_are old_is seen_is copied counts same =
+outputs_of_frame c N frame numbers old new seen copies coins is fits numbers_are old_is seen_is copied counts same =
     outs_held c N frame.values new copies (ahead (draws c N) coins) is
     (copied ∙ ap₂ (λ (vs : List (List ℕ)) (us : List ℕ). map (λ u. get_or vs u []) us) seen_is numbers_are) counts all
     ∙ ap (λ (n : ℕ). outs words c N (all_listed words (take n frame.values)) (ahead (draws c N) coins)) (sym fits.inputs)
@@ -119,11 +123,9 @@ outputs_of_frame c N frame gates numbers inputs old new seen copies coins is fit
     all : SameShares N (value_count c) (all_listed words new)
         (shares_of (run words N c.gates c.inputs (start words (all_listed words frame.values)) (ahead (draws c N) coins)))
     all u i lu li =
-        let count : length old ≡ length frame.values = ap length old_is in
-        same u i (omega (arith, count, fits.values)) li
-        ∙ ap₂ (λ (gs : List Gate) (n : ℕ). run words N gs n (start words (all_listed words old)) (ahead (sum_by (gate_draws N) gs) coins) u (Share i))
-        gates_are (inputs_are ∙ fits.inputs)
-        ∙ ap (λ (vs : List (List ℕ)). run words N c.gates c.inputs (start words (all_listed words vs)) (ahead (draws c N) coins) u (Share i)) old_is
+        ap (λ (vs : List (List ℕ)). all_listed words vs u i) (sym (same_values new))
+        ∙ same u i lu li
+        ∙ ap (λ (vs : List (List ℕ)). run words N c.gates c.inputs (start words (all_listed words vs)) (ahead (draws c N) coins) u (Share i)) (same_values old ∙ old_is)
 
 -- PLAIN VALUES
 
@@ -168,5 +170,5 @@ plain_in_lane l N c inputs outputs r is one count counts e =
     ap (λ (f : List ℕ → Bool). map f outputs) (fun_ext (λ v. unmasked_is (lane l v)))
     ∙ sym (map-map xor_all (lane l) outputs)
     ∙ ap (map xor_all) e
-    ∙ outputs_unmask c N (all_listed bits (map (lane l) inputs)) r is one
+    ∙ outputs_unmask c N (all_listed bits (map (lane l) inputs)) r is.formed one
     ∙ ap (plain c) (ap (λ (n : ℕ). each (λ v. unshared N (all_listed bits (map (lane l) inputs) v)) n) (sym count) ∙ unshared_in_lane l N inputs counts)

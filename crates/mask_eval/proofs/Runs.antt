@@ -36,7 +36,7 @@ module _ {X : Type 0} (R : Ring X) where
       (ap₂ R.add (ap (R.add (r j i)) (ap₂ R.mul aj bi)) (ap₂ R.mul ai bj))
 
   -- an output share of a gate depends on the operands' shares alone
-  share-same : (N n : ℕ) (g : Gate) (s s' : ℕ → Shares X) (r : List X) → OperandsBelow n g → SameShares N n s s' →
+  pub share-same : (N n : ℕ) (g : Gate) (s s' : ℕ → Shares X) (r : List X) → OperandsBelow n g → SameShares N n s s' →
       (i : ℕ) → i < N → gate_wire R N g s r (Share i) ≡ gate_wire R N g s' r (Share i)
   share-same zero n g s s' r below same i lt = absurd (omega arith)
   share-same (suc N) n Zero s s' r below same i lt = refl
@@ -76,7 +76,7 @@ module _ {X : Type 0} (R : Ring X) where
       ∙ run-take N gs (suc n) _ (drop d r)
 
   -- the shares of a list of values, one of which is new
-  set-same : (N n : ℕ) (g : Gate) (values : List (List X)) (out r : List X) → n < length values → out ≡ gate_out R N g (all_listed R values) r →
+  pub set-same : (N n : ℕ) (g : Gate) (values : List (List X)) (out r : List X) → n < length values → out ≡ gate_out R N g (all_listed R values) r →
       SameShares N (suc n) (all_listed R (set values n out)) (shares_of (put n (gate_wire R N g (all_listed R values) r) (start R (all_listed R values))))
   set-same N n g values out r room is u i lu li = go (cases_order u n)
     where

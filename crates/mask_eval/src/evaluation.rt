@@ -12,18 +12,19 @@ ghost use Rattle.mask_eval.specs.Frames.{IsFrameOf, input_values};
 ghost use Rattle.mask_eval.specs.Watching.{reports, told_more};
 
 use crate::frames::Frame;
-use crate::gates::eval_gates;
+use crate::gates::eval_on;
 use crate::watching::Watch;
-use crate::words::{copy_values, write_values};
+use crate::words::{copy_values, write_shares, write_values};
 use mask_check::Admitted;
 use mask_circuit::Steps;
+use mask_gadget::Unheard;
 use mask_tape::Coins;
 use std::sync::ledger::Ledger;
 
 /// Evaluates the circuit on the shares of its inputs, in all lanes at once, and tells the watch.
 ///
-/// Each product and each refresh draws one coin for each pair of shares. A step is one gate, for all lanes. No share is
-/// unmasked, and no memory is taken.
+/// It is [`eval_on`] on the machine that keeps nothing. Each product and each refresh draws one coin for each pair of
+/// shares. A step is one gate, for all lanes. No share is unmasked, and no memory is taken.
 pub fn eval<const N: usize, W: Watch, L: Ledger>(
     circuit: &Admitted,
     frame: &mut Frame<N>,
@@ -56,18 +57,13 @@ pub fn eval<const N: usize, W: Watch, L: Ledger>(
     ensures told { W.told watch.new ≡ told_more (W.told watch.old)
         (reports circuit.now (N - 1) (concat (input_values frame.old)) (ahead (draws circuit.now N) coins.old) (concat frame.new.outputs) lanes) }
 {
-    let circuit = circuit.circuit();
+    let admitted = circuit;
+    let circuit = admitted.circuit();
     let used = coins.used();
-    eval_gates(
-        circuit.gates(),
-        frame.inputs,
-        &mut frame.values,
-        coins,
-        steps,
-    );
+    eval_on(admitted, &mut frame.values, coins, &mut Unheard, steps);
     copy_values(circuit.outputs(), &frame.values, &mut frame.outputs);
     write_values(&frame.values[..frame.inputs], &mut frame.input_words);
-    write_values(&frame.outputs, &mut frame.output_words);
+    write_shares(&frame.outputs, &mut frame.output_words);
     let spent = &coins.words()[used..coins.used()];
     watch.report(
         circuit,

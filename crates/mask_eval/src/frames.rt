@@ -15,7 +15,7 @@ use std::marker::Model;
 #[derive(Drop)]
 pub struct Frame<const N: usize> {
     pub(crate) inputs: usize,
-    pub(crate) values: Vec<Shares<N>>,
+    pub(crate) values: Vec<[u64; N]>,
     pub(crate) outputs: Vec<Shares<N>>,
     pub(crate) input_words: Vec<u64>,
     pub(crate) output_words: Vec<u64>,
@@ -46,9 +46,8 @@ impl<const N: usize> Frame<N> {
         let circuit = circuit.circuit();
         let inputs = circuit.inputs() as usize;
         let count = circuit.outputs().len();
-        let zero = Shares::from_parts([0; N]);
-        let values = vec![in alloc; zero; circuit.values() as usize]?;
-        let outputs = vec![in alloc; zero; count]?;
+        let values = vec![in alloc; [0; N]; circuit.values() as usize]?;
+        let outputs = vec![in alloc; Shares::from_parts([0; N]); count]?;
         let input_words = vec![in alloc; 0; N * inputs]?;
         let output_words = vec![in alloc; 0; N * count]?;
         Ok(Frame {
@@ -67,7 +66,7 @@ impl<const N: usize> Frame<N> {
         ensures value { self.new ≡ record self.old { values = slice_set self.old.values input value.entry } }
         ensures fits { (c : Netlist) → IsFrameOf self.old c → IsFrameOf self.new c }
     {
-        self.values[input as usize] = value;
+        self.values[input as usize] = value.parts();
     }
 
     /// The shares of the outputs in order, as the latest evaluation left them.

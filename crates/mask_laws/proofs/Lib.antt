@@ -11,6 +11,7 @@ pub mod Flips
 pub mod FreshBits
 pub mod GateExamples
 pub mod Gates
+pub mod Hiding
 pub mod Keeping
 pub mod LocalNumbers
 pub mod Lookup
@@ -24,11 +25,14 @@ pub mod Probes
 pub mod Products
 pub mod Reaching
 pub mod Refreshes
+pub mod Refuting
+pub mod Rows
 pub mod RunExamples
 pub mod RunNeeds
 pub mod Running
 pub mod Seen
 pub mod Sets
+pub mod Sharings
 pub mod Shifts
 pub mod Simulation
 pub mod Strengthening

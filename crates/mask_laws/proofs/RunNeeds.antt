@@ -136,7 +136,7 @@ pub demanded_small : (calls : List Call) (N : ℕ) (P counts : List ℕ) (s : Or
 demanded_small [] N P counts s are secret = let none : size N (λ i. false) ≡ 0 = size-none N (λ i. false) (λ i lt. refl) in omega arith
 demanded_small (call ∷ calls) N P counts s are secret =
     let own = size-demanded_by counts call (need call.circuit N (places_within (call_wires N call) P)) s N (length (places_within (call_wires N call) P)) are.0 secret
-    (need_small call.circuit N (places_within (call_wires N call) P) are.0.circuit are.0.strong) in
+    (need_small call.circuit N (places_within (call_wires N call) P) are.0.formed are.0.strong.0) in
     let later = demanded_small calls N (places_behind (call_wires N call) P) _ s are.1 secret in
     let both = size-or N (demanded_by call (need call.circuit N (places_within (call_wires N call) P)) s) (demanded calls N (places_behind (call_wires N call) P) s) in
     let parts = length-places (call_wires N call) P in

@@ -20,9 +20,9 @@ use Rattle.mask_laws.proofs.OutputShares.{Contains-map, output_names, output_nam
 use Rattle.mask_laws.proofs.RunNeeds.{asked_of, call_probes, call_allowed, demanded_by-all, demanded_small, length-places}
 use Rattle.mask_laws.proofs.Gates.{gate_keeps}
 use Rattle.mask_laws.proofs.Probes.{probed_shares-from_Contains, need_from-probed}
-use Rattle.mask_laws.proofs.Seen.{shift_keeps, shift_reorders}
+use Rattle.mask_laws.proofs.Seen.{map-same, shift_keeps, shift_reorders}
 use Rattle.mask_laws.proofs.Shifts.{take_front, drop_front, length-shift_from}
-use Rattle.mask_laws.proofs.Strengthening.{need_with_outputs, asked_names, asked_within, asked_fits}
+use Rattle.mask_laws.proofs.Strengthening.{strong_masked, need_with_outputs, asked_names, asked_within, asked_fits}
 use Rattle.mask_laws.proofs.Tapes.{sum_over_tapes-same, sum_over_tapes-add}
 
 -- THE SHIFT
@@ -96,14 +96,14 @@ inputs_agree call calls N j P counts x y a b two is agree v i within lt needed =
     agree (origin_at call v) (All-get_or (IsThere counts) call.origins v (Public false) (omega (arith, is.origins)) is.there) i lt
     (or_left (demanded_by call own (origin_at call v) i) (demanded calls N (places_behind (call_wires N call) P) (origin_at call v) i)
     (demanded_by-all call own v i within
-    (sym (need_with_outputs call.circuit N (places_within (call_wires N call) P) (asked_of call calls N j P) two is.circuit is.strong v i within) ∙ needed)))
+    (sym (need_with_outputs call.circuit N (places_within (call_wires N call) P) (asked_of call calls N j P) two is.formed (strong_masked call.circuit is.strong) v i within) ∙ needed)))
 
 -- lists that are the same have the same first element and the same rest
 same_cons : {A : Type 0} (a b : A) (xs ys : List A) → a ∷ xs ≡ b ∷ ys → (a ≡ b) × (xs ≡ ys)
 same_cons a b xs ys e = (cc, cc)
 
 -- two functions that make one list of a list agree at its elements
-same_at : {A B : Type 0} (f g : A → B) (xs : List A) (x : A) → map f xs ≡ map g xs → Contains xs x → f x ≡ g x
+pub same_at : {A B : Type 0} (f g : A → B) (xs : List A) (x : A) → map f xs ≡ map g xs → Contains xs x → f x ≡ g x
 same_at f g [] x e h = absurd (none_in_nil x h)
 same_at f g (y ∷ xs) x e h = go (Contains-cons_cases y xs x h) (λ rest. same_at f g xs x (same_cons (f y) (g y) (map f xs) (map g xs) e).1 rest)
   where
@@ -112,7 +112,7 @@ same_at f g (y ∷ xs) x e h = go (Contains-cons_cases y xs x h) (λ rest. same_
     go (inr rest) up = up rest
 
 -- an element that passes is among those that pass
-Contains-filter : (test : ℕ → Bool) (xs : List ℕ) (x : ℕ) → Contains xs x → test x ≡ true → Contains (filter test xs) x
+pub Contains-filter : (test : ℕ → Bool) (xs : List ℕ) (x : ℕ) → Contains xs x → test x ≡ true → Contains (filter test xs) x
 Contains-filter test [] x h e = absurd (none_in_nil x h)
 Contains-filter test (y ∷ xs) x h e = go (test y) refl (Contains-cons_cases y xs x h) (λ rest. Contains-filter test xs x rest e)
   where
@@ -133,8 +133,8 @@ wires_kept call calls N j P counts s s' own two are few agree long p h lt =
     let here : Contains Q p = Contains-append_left (places_within (call_wires N call) P) (output_places c N (asked_of call calls N j P)) p
     (Contains-filter (λ q. nat_lt q (call_wires N call)) P p h (lt-ltb p (call_wires N call) lt)) in
     same_at (λ q. slice_index_or (wires bits c N s own) q false) (λ q. slice_index_or (wires bits c N s' (call_shift call calls N j P s s' own)) q false) Q p
-    (sym (shift_keeps gate_keeps c N s s' Q own two are.0.circuit.gates (asked_within c N (places_within (call_wires N call) P) (asked_of call calls N j P) two are.0.circuit allowed)
-    (asked_fits c N (places_within (call_wires N call) P) (asked_of call calls N j P) two are.0.circuit are.0.strong allowed) agree long).0) here
+    (sym (shift_keeps gate_keeps c N s s' Q own two are.0.formed.gates (asked_within c N (places_within (call_wires N call) P) (asked_of call calls N j P) two are.0.formed allowed)
+    (asked_fits c N (places_within (call_wires N call) P) (asked_of call calls N j P) two are.0.formed (strong_masked c are.0.strong) allowed) agree long).0) here
 
 -- .. and so do the shares of its outputs that are asked for
 outputs_kept : (call : Call) (calls : List Call) (N j : ℕ) (P counts : List ℕ) (s s' : ℕ → Shares Bool) (own : List Bool) → 2 ≤ N → AreStrongCalls counts (call ∷ calls) → length P < N →
@@ -150,12 +150,12 @@ outputs_kept call calls N j P counts s s' own two are few agree long k i lt belo
     let Q = call_probes call calls N j P in
     let zero_k : 0 + k ≡ k = omega arith in
     let here : Contains (probes_at c N Q) (output_at c k, Share i) =
-    subst (λ (S : List CircuitWire). Contains S (output_at c k, Share i)) (sym (asked_names c N within O two are.0.circuit))
+    subst (λ (S : List CircuitWire). Contains S (output_at c k, Share i)) (sym (asked_names c N within O two are.0.formed))
     (Contains-append_right (probes_at c N within) (output_names N O c.outputs 0) (output_at c k, Share i)
     (output_names-all N O c.outputs 0 k i lt below (ap (λ z. O z i) zero_k ∙ asked))) in
     let demanded = need_from-probed (probes_at c N Q) c.gates c.inputs (output_at c k) i (probed_shares-from_Contains (probes_at c N Q) (output_at c k) i here) in
-    sym ((shift_keeps gate_keeps c N s s' Q own two are.0.circuit.gates (asked_within c N within O two are.0.circuit allowed)
-    (asked_fits c N within O two are.0.circuit are.0.strong allowed) agree long).1 (output_at c k) i (are.0.circuit.outputs k 0 lt) below demanded)
+    sym ((shift_keeps gate_keeps c N s s' Q own two are.0.formed.gates (asked_within c N within O two are.0.formed allowed)
+    (asked_fits c N within O two are.0.formed (strong_masked c are.0.strong) allowed) agree long).1 (output_at c k) i (are.0.formed.outputs k 0 lt) below demanded)
 
 -- the outputs of the call itself ..
 with_new : (N j : ℕ) (call : Call) (s : ℕ → Shares Bool) (own : List Bool) (a : Outputs) (l k i : ℕ) → l ≡ j →
@@ -220,7 +220,7 @@ wires_parts call calls N j x a own rest long =
     (take_front (call_draws N call) own rest long) (drop_front (call_draws N call) own rest long)
 
 -- a circuit has as many wires whatever they carry
-length-wires : (c : Netlist) (N : ℕ) (s : ℕ → Shares Bool) (r : List Bool) → length (wires bits c N s r) ≡ wire_count c N
+pub length-wires : (c : Netlist) (N : ℕ) (s : ℕ → Shares Bool) (r : List Bool) → length (wires bits c N s r) ≡ wire_count c N
 length-wires c N s r = length-map (names c N) (λ p. expand bits c N s r p.0 p.1)
 
 -- two lists that agree before n and behind it agree at every place
@@ -260,11 +260,6 @@ shift_run-keeps (call ∷ calls) N j P counts x y a b r two are few number agree
     (later_agree call calls N j P counts x y a b own two are few number agree own_long) rest_long (p - w) (place_behind w P p h le))
     ∙ ap (λ ws. slice_index_or ws p false) (sym (wires_parts call calls N j y b new _ new_long))
 
--- two functions that agree at the elements of a list make the same list
-map_agree : {A B : Type 0} (f g : A → B) (xs : List A) → ((x : A) → Contains xs x → f x ≡ g x) → map f xs ≡ map g xs
-map_agree f g [] h = refl
-map_agree f g (x ∷ xs) h = ap₂ (λ y ys. y ∷ ys) (h x (Contains-first x xs)) (map_agree f g xs (λ y k. h y (Contains-later x xs y k)))
-
 -- before any call the sides agree on the need of the variables
 start_agree : (calls : List Call) (N : ℕ) (P : List ℕ) (x y : ℕ → Shares Bool) → ((v i : ℕ) → i < N → run_need calls N P v i ≡ true → x v i ≡ y v i) →
     SidesAgree calls N P [] x y no_outputs no_outputs
@@ -280,7 +275,7 @@ run_needs calls N P two are few = (
       let hit = λ (bs : List Bool). cond (same_bits bs v) 1 0 in
       let shifted = λ (r : List Bool). shift_run calls N 0 x y no_outputs no_outputs P r in
       sum_over_tapes-same (run_draws calls N) _ _ (λ r long. ap hit
-      (map_agree (λ p. slice_index_or (run_wires calls N x r) p false) (λ p. slice_index_or (run_wires calls N y (shifted r)) p false) P
+      (map-same (λ p. slice_index_or (run_wires calls N x r) p false) (λ p. slice_index_or (run_wires calls N y (shifted r)) p false) P
       (λ p h. shift_run-keeps calls N 0 P [] x y no_outputs no_outputs r two are few refl (start_agree calls N P x y agree) long p h)))
       ∙ sum_over_tapes-shift_run calls N 0 x y no_outputs no_outputs P (λ r. hit (run_seen calls N y r P)),
 )

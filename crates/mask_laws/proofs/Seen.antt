@@ -51,7 +51,8 @@ probe-same c N P t t' two named agree v w k = go w k (All-contains (IsNamedFrom 
     go (Share i) k h = agree.shares v i h.1 h.2 (need_from-probed P c.gates c.inputs v i (probed_shares-from_Contains P v i k))
     go w k h = agree.inner v w h.1 k refl
 
-map-same : {A B : Type 0} (f g : A → B) (xs : List A) → ((a : A) → Contains xs a → f a ≡ g a) → map f xs ≡ map g xs
+-- two functions that agree at the elements of a list make the same list
+pub map-same : {A B : Type 0} (f g : A → B) (xs : List A) → ((a : A) → Contains xs a → f a ≡ g a) → map f xs ≡ map g xs
 map-same f g [] h = refl
 map-same {B} f g (x ∷ xs) h = ap₂ (λ (b : B) (bs : List B). b ∷ bs) (h x (Contains-first x xs)) (map-same f g xs (λ a k. h a (Contains-later x xs a k)))
 

@@ -15,7 +15,7 @@ use Rattle.mask_circuit.specs.Expansion.{Carried, shares_of, put, start, run, ex
 use Rattle.mask_laws.specs.Sharing.{xor_all, unshared_inputs, ValuesUnmask, OutputsUnmask}
 use Rattle.mask_laws.proofs.Bits.{xor-false, xor_self, xor_comm}
 use Rattle.mask_laws.proofs.BitSums.{total, total-xor, total_same, total_none, xor_all-each, row_sum-total, square}
-use Rattle.mask_laws.proofs.Carrying.{put-other}
+use Rattle.mask_laws.proofs.Carrying.{put-own, put-other}
 use Rattle.mask_circuit.proofs.Places.{length-each, slice_get-each}
 
 -- GATES
@@ -96,17 +96,13 @@ gate_total (suc m) (Ref u) n t values r one below stand =
 
 -- WHOLE CIRCUITS
 
--- value n has the new wires
-put_same : {X : Type 0} (n : ℕ) (wires : Wire → X) (t : Carried X) (u : ℕ) (w : Wire) → u ≡ n → put n wires t u w ≡ wires w
-put_same n wires t u w e = rw (eq-eqb u n e) refl
-
 -- one more value
 Stand_put : (N n : ℕ) (wires : Wire → Bool) (t : Carried Bool) (values : List Bool) (b : Bool) → length values ≡ n → Stand N n t values →
     total (λ i. wires (Share i)) N ≡ b → Stand N (suc n) (put n wires t) (values ++ b ∷ [])
 Stand_put N n wires t values b size stand new u lt = go (cases_order u n)
   where
     go : (u ≡ n) ⊎ ((u < n) ⊎ (n < u)) → total (shares_of (put n wires t) u) N ≡ value_at (values ++ b ∷ []) u
-    go (inl e) = total_same _ _ N (λ i l. put_same n wires t u (Share i) e) ∙ (new ∙ sym (get_or_push values b false u (omega arith)))
+    go (inl e) = total_same _ _ N (λ i l. put-own n u (Share i) wires t e) ∙ (new ∙ sym (get_or_push values b false u (omega arith)))
     go (inr (inl l)) = total_same _ _ N (λ i k. put-other n u (Share i) wires t (λ e. omega arith)) ∙ (stand u l ∙ sym (get_or_append_left values (b ∷ []) false u (omega arith)))
     go (inr (inr g)) = absurd (omega arith)
 

@@ -2,12 +2,13 @@
 -- observer sees of the wires of all calls together.
 use Rattle.std.specs.Prelude.{◌≡◌, ℕ, suc, ◌-◌, ◌<◌, ◌≤◌, Bool, true, false, cond, not, ◌&&◌, ◌||◌, ◌==◌, nat_lt, List, [], ◌∷◌, ◌++◌, map, length, take, drop, All, sum_by, slice_index, slice_index_or}
 use Rattle.std.specs.List.{filter, flat_map, list_any}
-use Rattle.mask_circuit.specs.Netlist.{Netlist, IsCircuit}
+use Rattle.mask_circuit.specs.Netlist.{Netlist, IsWellFormed}
 use Rattle.mask_circuit.specs.Value.{xor}
 use Rattle.mask_circuit.specs.Ring.{bits}
 use Rattle.mask_circuit.specs.Wires.{Shares, each, on_first}
 use Rattle.mask_circuit.specs.Expansion.{shares_of, expand, draws, wire_count, wires}
 use Rattle.mask_circuit.specs.Probing.{same_bits, sum_over_tapes, ShareSets, size}
+use Rattle.mask_circuit.specs.Privacy.{sum_over_sharings}
 use Rattle.mask_circuit.specs.Need.{ShareSet, need}
 use Rattle.mask_circuit.specs.Acceptance.{IsStrong, output_at}
 
@@ -105,6 +106,16 @@ abbrev pub IsRunSimulated : List Call → ℕ → List ℕ → ShareSets → Typ
 IsRunSimulated calls N P I = (x y : ℕ → Shares Bool) →
     ((v i : ℕ) → i < N → I v i ≡ true → x v i ≡ y v i) → (v : List Bool) → run_hits calls N x P v ≡ run_hits calls N y P v
 
+-- how many sharings of the bits x of the variables, each with all tapes, show just the bits v on the wires P
+abbrev pub private_run_hits : List Call → ℕ → List Bool → List ℕ → List Bool → ℕ
+private_run_hits calls N x P v = sum_over_sharings N x (λ shares. run_hits calls N shares P v)
+
+-- Privacy of a run: what any t of its wires show, t at most N - 1, has over all sharings and tapes the same distribution
+-- for any two lists of bits of the variables. Public bits are part of the calls.
+abbrev pub IsPrivateRun : List Call → ℕ → Type 0
+IsPrivateRun calls N = (P : List ℕ) → length P < N → (x y : List Bool) → length x ≡ length y →
+    (v : List Bool) → private_run_hits calls N x P v ≡ private_run_hits calls N y P v
+
 -- STRONG RUNS
 
 abbrev pub IsPublic : Origin → Type 0
@@ -120,7 +131,7 @@ IsThere counts (Output j k) = (j < length counts) × (k < slice_index counts j)
 
 -- a call of a strong circuit, whose origins stand and of which none is taken twice unless it is public
 pub record IsStrongCall (counts : List ℕ) (call : Call) : Type 0 where
-  pub circuit : IsCircuit call.circuit
+  pub formed : IsWellFormed call.circuit
   pub strong : IsStrong call.circuit
   pub origins : length call.origins ≡ call.circuit.inputs
   pub there : All (IsThere counts) call.origins

@@ -66,4 +66,4 @@ at_place c N P k are fits lt =
 
 pub at_gate : (c : Netlist) (N : ℕ) (P : List CircuitWire) (k v : ℕ) (gates : List Gate) → IsCircuit c → FitsFrom N P c.gates c.inputs → gates ≡ c.gates →
     v ≡ c.inputs + k → k < length gates → AtGate c N P k v (get_or gates k Zero)
-at_gate c N P k v gates circuit fits same value lt = rw (same, value) (at_place c N P k circuit.gates fits (rw same at lt))
+at_gate c N P k v gates circuit fits same value lt = rw (same, value) (at_place c N P k circuit.formed.gates fits (rw same at lt))

@@ -20,16 +20,14 @@ operands_below n (Ref u) e = ltb-true _ _ e
 
 pub circuit-inputs : (n : ℕ) → n ≤ MAX_VALUES → IsCircuit (only_inputs n)
 circuit-inputs n few = record {
-  gates = tt;
-  outputs = All-nil (λ u. u < n + 0);
+  formed = record { gates = tt; outputs = All-nil (λ u. u < n + 0) };
   few_values = omega arith;
   few_outputs = omega arith;
 }
 
 pub circuit-out : (c : Netlist) (u : ℕ) → IsCircuit c → u < value_count c → length c.outputs < MAX_OUTPUTS → IsCircuit (with_output c u)
 circuit-out c u is below room = record {
-  gates = is.gates;
-  outputs = All-push (λ u. u < value_count c) c.outputs u is.outputs below;
+  formed = record { gates = is.formed.gates; outputs = All-push (λ u. u < value_count c) c.outputs u is.formed.outputs below };
   few_values = is.few_values;
   few_outputs = omega (arith, length-append c.outputs (u ∷ []));
 }

@@ -217,8 +217,8 @@ lead-second l is =
     ∙ ap (λ xs. ins ++ xs) (append_assoc gates outs (End ∷ [])))
     ∙ inputs-go l.inputs [] 0 (gates ++ (outs ++ End ∷ [])) is.inputs (omega arith) (omega arith)
     ∙ ap (λ m. lead (at Named (with_inputs m l.inputs)) (gates ++ (outs ++ End ∷ []))) sum
-    ∙ gates_named c.inputs l.inputs c.gates (outs ++ End ∷ []) circuit.gates values
-    ∙ groups-go c.inputs c.gates l.inputs l.outputs [] [] c.outputs (End ∷ []) is.outputs (omega arith) refl all_outputs (omega arith) circuit.outputs
+    ∙ gates_named c.inputs l.inputs c.gates (outs ++ End ∷ []) circuit.formed.gates values
+    ∙ groups-go c.inputs c.gates l.inputs l.outputs [] [] c.outputs (End ∷ []) is.outputs (omega arith) refl all_outputs (omega arith) circuit.formed.outputs
     ∙ end_named l all_outputs
 
 -- all of version 1
@@ -256,8 +256,8 @@ lead-first c is =
     let outs = map Out c.outputs in
     begin_first c.inputs ((gates ++ outs) ++ End ∷ []) (omega arith)
     ∙ ap (lead (at Plain (of_inputs c.inputs))) (append_assoc gates outs (End ∷ []))
-    ∙ gates_plain c.inputs c.gates (outs ++ End ∷ []) is.gates values
-    ∙ outs_plain c (End ∷ []) is.outputs is.few_outputs
+    ∙ gates_plain c.inputs c.gates (outs ++ End ∷ []) is.formed.gates values
+    ∙ outs_plain c (End ∷ []) is.formed.outputs is.few_outputs
     ∙ end_plain c
 
 -- all lines of a circuit are small
@@ -309,8 +309,8 @@ small-first c is =
       (
         (let small : c.inputs < 10 ^ 9 = omega arith in small),
         small-append (map Makes c.gates ++ map Out c.outputs) (End ∷ [])
-            (small-append (map Makes c.gates) (map Out c.outputs) (small-gates c.inputs c.gates is.gates values)
-            (small-outs _ c.outputs values is.outputs)) end_small,
+            (small-append (map Makes c.gates) (map Out c.outputs) (small-gates c.inputs c.gates is.formed.gates values)
+            (small-outs _ c.outputs values is.formed.outputs)) end_small,
       ),
     )
 
@@ -329,8 +329,8 @@ small-second l is =
       tt,
       small-append (ins ++ (gates ++ outs)) (End ∷ [])
           (small-append ins (gates ++ outs) (small-inputs [] l.inputs is.inputs (omega arith))
-          (small-append gates outs (small-gates c.inputs c.gates circuit.gates values)
-          (small-output_lines _ [] l.outputs c.outputs is.outputs (omega arith) values circuit.outputs))) end_small,
+          (small-append gates outs (small-gates c.inputs c.gates circuit.formed.gates values)
+          (small-output_lines _ [] l.outputs c.outputs is.outputs (omega arith) values circuit.formed.outputs))) end_small,
     )
 
 right_is : (r : Result LabelledNetlist Fault) (l : LabelledNetlist) → right_part r ≡ Some l → r ≡ Ok l
