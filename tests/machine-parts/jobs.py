@@ -31,6 +31,9 @@ CALLS = [
     for shares in range(2, most + 1)
 ]
 
+# As many values as shares: these have to be biased, or the test can't see sets of values.
+TOO_MANY = [Call(f"product, {shares} shares, sets of up to {shares}", "product", shares, shares, "") for shares in (2, 3)]
+
 PROGRAM_RUNS = [
     Run("mask: a product", ONE_PRODUCT),
     Run("mask: a refresh and a product", FRESH_PRODUCT),

@@ -82,7 +82,7 @@ def try_call(stepper, program, call):
         f"{len(values)} values, {sets} sets of up to {call.order}: {len(biased)} biased",
         flush=True,
     )
-    for some in biased[:3]:
+    for some in biased[:3] if call.order < call.shares else []:
         print("    biased: " + "; ".join(f"{where} at {place:x} in {name_of(program, place)}" for place, where in (values[v] for v in some)))
     missing = LEAST.get(call.call, lambda n: 0)(call.shares) - len(values)
     blind = {

@@ -1,5 +1,5 @@
 """Runs of `mask` itself, a tape at a time."""
-import collections, itertools
+import collections
 
 import circuits
 from stepping import name_of
@@ -69,5 +69,5 @@ def between_plain(plain, seen):
     steps = sorted({step for made in plain for step in made.steps})
     if len(steps) < 2:
         return 0
-    first, last = max(itertools.pairwise(steps), key=lambda pair: pair[1] - pair[0])
+    first, last = max(zip(steps, steps[1:]), key=lambda pair: pair[1] - pair[0])
     return sum(any(first < step < last for step in made.steps) for made in seen.lists)
