@@ -16,12 +16,14 @@ ghost use Rattle.mask_io.specs.Outside.{Rose, NeverFalls, Gives, Accepts, Takes,
 mod adapters;
 mod calls;
 mod memory;
+mod opened;
 mod seed;
 #[cfg(test)]
 mod tests;
 
 pub use adapters::{FileEntropy, StdSink, StdSource};
 pub use memory::{ClosedEntropy, ClosedSource, MemEntropy, MemSink, MemSource, SureSource};
+pub use opened::{OpenEntropy, OpenSource};
 pub use seed::SeedEntropy;
 
 /// The one fault of the outside. Which object failed is told by its count.
