@@ -6,10 +6,7 @@ ghost use Rattle.std.specs.String.{string_bytes};
 use std::alloc::{AllocError, Global};
 use std::marker::Model;
 
-/// The most words of a command line.
-pub const MAX_WORDS: usize = 1_000_000;
-
-/// The words of a command line, in order. A word is a text.
+/// The words of a command line, in order: at most 1,000,000. A word is a text.
 #[derive(Drop)]
 pub struct Words {
     words: Vec<String>,
