@@ -3,3 +3,4 @@ pub mod Bytes
 pub mod Places
 pub mod Exchange
 mod Examples
+pub mod Words

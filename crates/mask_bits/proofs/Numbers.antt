@@ -1,13 +1,13 @@
 -- The bits of a number, and the number of bits.
-use Rattle.std.proofs.Common.{◌≡◌, ℕ, zero, suc, ◌+◌, ◌-◌, ◌*◌, ◌/◌, ◌%◌, ◌^◌, ◌<◌, ◌≤◌, Bool, true, false, nat_eq, List, [], ◌∷◌, ◌++◌, length, take, get_or, replicate, refl, sym, ap, arith, lit<, append_assoc, length-append, add-one, if◌then◌else◌}
+use Rattle.std.proofs.Common.{◌≡◌, ℕ, zero, suc, ◌+◌, ◌-◌, ◌*◌, ◌/◌, ◌%◌, ◌^◌, ◌<◌, ◌≤◌, Bool, true, false, nat_eq, List, [], ◌∷◌, ◌++◌, length, take, get_or, replicate, refl, sym, ap, ◌∙◌, arith, lit<, append_assoc, length-append, add-one, if◌then◌else◌}
 use Rattle.std.proofs.Math.Nat.{pow-suc, mod-eq_of_lt}
 use Rattle.std.proofs.lemmas.Nat.{pow_pos}
 use Rattle.std.proofs.Math.Arith.{mod-mul}
 use Rattle.std.proofs.Math.Pow.{pow_mono}
 use Rattle.std.specs.Int.{bit_at}
 use Rattle.std.specs.Prelude.{bit_and}
-use Rattle.std.proofs.lemmas.List.{take_more, length-take-le}
-use Rattle.std.proofs.lemmas.Nat.Bits.{shr_and_one, bit_at-suc, bit_at_lowest, bit_at-lt}
+use Rattle.std.proofs.lemmas.List.{append-nil, take_more, length-take-le}
+use Rattle.std.proofs.lemmas.Nat.Bits.{shr_and_one, bit_at-zero, bit_at-suc, bit_at_lowest, bit_at-lt}
 use Rattle.mask_bits.specs.Reading.{bit, lowest, number}
 
 -- how many bits there are
@@ -26,12 +26,10 @@ lowest-cons (suc n) word =
 pub lowest-more : (n word : ℕ) → lowest (n + 1) word ≡ lowest n word ++ bit n word ∷ []
 lowest-more n word = rw (add-one n) refl
 
--- one bit more, as `(word >> i) & 1 == 1` tests it
-pub tested_more : (bits so_far now : List Bool) (i word : ℕ) → so_far ≡ bits ++ lowest i word
-    → now ≡ so_far ++ nat_eq (bit_and (word / 2 ^ i) 1) 1 ∷ [] → now ≡ bits ++ lowest (i + 1) word
-tested_more bits so_far now i word so_far_is now_is =
-    let test : nat_eq (bit_and (word / 2 ^ i) 1) 1 ≡ bit i word = ap (λ b. nat_eq b 1) (shr_and_one word i) in
-    rw (now_is, so_far_is, test, lowest-more i word) (append_assoc bits (lowest i word) (bit i word ∷ []))
+-- one bit more at the end of a list
+pub pushed_more : (bits so_far now : List Bool) (i word : ℕ) (b : Bool) → so_far ≡ bits ++ lowest i word → b ≡ bit i word
+    → now ≡ so_far ++ b ∷ [] → now ≡ bits ++ lowest (i + 1) word
+pushed_more bits so_far now i word b so_far_is is now_is = rw (now_is, so_far_is, is, lowest-more i word) (append_assoc bits (lowest i word) (bit i word ∷ []))
 
 -- each of the bits, whatever comes after
 pub get_or-lowest : (n i word : ℕ) (more : List Bool) → i < n → get_or (lowest n word ++ more) i false ≡ bit i word
@@ -64,6 +62,18 @@ lowest-number (suc n) (b ∷ bits) fits =
     let left : suc n - suc (length bits) ≡ n - length bits = omega arith in
     rw (lowest-cons n (number (b ∷ bits)), parity b (number bits), half b (number bits), lowest-number n bits shorter, left) refl
 
+-- all bits of a number that bits made
+pub lowest-of : (bits : List Bool) (word n : ℕ) → word ≡ number bits → length bits ≡ n → lowest n word ≡ bits
+lowest-of bits word n made long =
+    let none : n - length bits ≡ 0 = omega arith in
+    rw made (lowest-number n bits (omega arith) ∙ rw none (append-nil bits))
+
+-- each bit of the number of bits is that one, and past them there is none
+pub bit-number : (bits : List Bool) (k : ℕ) → bit k (number bits) ≡ get_or bits k false
+bit-number [] k = rw bit_at-zero refl
+bit-number (b ∷ bits) zero = parity b (number bits)
+bit-number (b ∷ bits) (suc k) = rw (bit_at-suc (number (b ∷ bits)) k, half b (number bits)) (bit-number bits k)
+
 -- what the place past one bit more weighs
 power_more : (bits : List Bool) → 2 ^ suc (length bits) ≡ 2 ^ length bits * 2
 power_more bits = pow-suc 2 (length bits)
@@ -78,6 +88,11 @@ number-lt (false ∷ bits) = let h = number-lt bits in rw (power_more bits) (ome
 pub number-append : (xs ys : List Bool) → number (xs ++ ys) ≡ number xs + 2 ^ length xs * number ys
 number-append [] ys = omega arith
 number-append (x ∷ xs) ys = rw (number-append xs ys, power_more xs) (omega arith)
+
+-- a last bit more
+pub number-last : (bits : List Bool) (b : Bool) → number (bits ++ b ∷ []) ≡ number bits + (if b then 2 ^ length bits else 0)
+number-last bits true = number-append bits (true ∷ []) ∙ omega arith
+number-last bits false = number-append bits (false ∷ []) ∙ omega arith
 
 -- one bit more
 pub number-more : (bits : List Bool) (i : ℕ) → i < length bits

@@ -11,5 +11,5 @@ mod square;
 mod tests;
 
 pub use bits::Bits;
-pub use readings::{bits_high_first, bits_low_first, bytes_of_high, bytes_of_low, pack_low};
+pub use readings::{bit_of, bits_high_first, bits_low_first, bytes_of_high, bytes_of_low, pack_low};
 pub use square::transpose_64;

@@ -6,6 +6,14 @@ ghost use Rattle.mask_bits.specs.Reading.{bit, lowest, low, high, number, big_en
 use crate::Bits;
 use std::alloc::{AllocError, Global};
 
+/// The bit of weight 2^place of a word.
+pub fn bit_of(word: u64, place: u32) -> bool
+    requires { place < 64 }
+    ensures { result ≡ bit place word }
+{
+    (word >> place) & 1 == 1
+}
+
 /// The bits of the bytes, each byte's lowest bit first.
 pub fn bits_low_first(alloc: Global, bytes: &[u8]) -> Result<Bits, AllocError>
     ensures reading { IfOk result (λ bits. bits ≡ low bytes.now) }
@@ -37,7 +45,7 @@ fn push_byte(bits: &mut Bits, byte: u8) -> Result<(), AllocError>
     ensures { OnOk result (bits.new ≡ bits.old ++ lowest 8 byte) }
 {
     for place in 0..8u32 {
-        bits.push((byte >> place) & 1 == 1)?;
+        bits.push(bit_of(byte as u64, place))?;
     }
     Ok(())
 }

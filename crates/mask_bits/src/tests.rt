@@ -58,3 +58,16 @@ fn square(rt: HostRuntime) {
     assert_eq!(rt; rows[1], 1 << 40);
     assert_eq!(rt; rows[40], 0);
 }
+
+// 100,000 bits, of which every eighth is set: there and back by either reading.
+#[test]
+fn reads_at_size(rt: HostRuntime) -> Result<(), Fail> {
+    let bytes = vec![in rt.alloc(); 0x01; 12_500]?;
+    let low = bits_low_first(rt.alloc(), &bytes)?;
+    let high = bits_high_first(rt.alloc(), &bytes)?;
+    assert_eq!(rt; low.len(), 100_000);
+    assert!(rt; bytes_of_low(rt.alloc(), &low)?.as_slice() == bytes.as_slice());
+    assert!(rt; bytes_of_high(rt.alloc(), &high)?.as_slice() == bytes.as_slice());
+    assert_eq!(rt; Bits::zeros(rt.alloc(), 100_000)?.len(), 100_000);
+    Ok(())
+}

@@ -95,7 +95,7 @@ add c b left right u v circuit within few is old = record {
     places = slice_set b.products b.count b.until
 
     below : (u < b.until) × (v < b.until)
-    below = gate_at_operands c b.until (And u v) circuit.gates is
+    below = gate_at_operands c b.until (And u v) circuit.formed.gates is
 
     left_in : u < length left
     left_in = omega (arith, below.0, old.left_size)

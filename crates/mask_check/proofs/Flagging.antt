@@ -117,7 +117,7 @@ FlagsOperands-step c n g flags new is within gate e old = subst (FlagsOperands c
 })
   where
     below : HasOperandsBelow (length flags) g
-    below = subst (HasOperandsBelow (length flags)) (sym gate) (operands_below c n (length flags) is.gates (omega (arith, old.size)))
+    below = subst (HasOperandsBelow (length flags)) (sym gate) (operands_below c n (length flags) is.formed.gates (omega (arith, old.size)))
 
 -- only values have gates
 uses_within : (c : Netlist) (u v : ℕ) (g : Option Gate) → gate_at c v ≡ g → Uses u g → v < value_count c
@@ -183,4 +183,4 @@ FencesBefore-more c k value g flags e within gate refresh free old =
 
 -- outputs are values
 pub output_within : (c : Netlist) (outputs : List ℕ) (k : ℕ) → IsCircuit c → outputs ≡ c.outputs → k < length outputs → get_or outputs k 0 < value_count c
-output_within c outputs k is e within = subst (λ (us : List ℕ). k < length us → get_or us k 0 < value_count c) (sym e) (λ lt. is.outputs k 0 lt) within
+output_within c outputs k is e within = subst (λ (us : List ℕ). k < length us → get_or us k 0 < value_count c) (sym e) (λ lt. is.formed.outputs k 0 lt) within

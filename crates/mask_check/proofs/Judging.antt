@@ -20,10 +20,10 @@ use Rattle.mask_check.specs.Verdicts.{IsVerdict, IsAcceptedBelow}
 -- SECURITY
 
 pub accepted_secure : (c : Netlist) → IsCircuit c → IsAccepted c → IsNIAtEachOrder c
-accepted_secure c is accepted N two = accepted_is_ni gate_keeps c N two is.gates accepted
+accepted_secure c is accepted N two = accepted_is_ni gate_keeps c N two is.formed.gates accepted
 
 pub strong_secure : (c : Netlist) → IsCircuit c → IsStrong c → IsSNIAtEachOrder c
-strong_secure c is strong N two = strong_is_sni c N two is strong
+strong_secure c is strong N two = strong_is_sni c N two is.formed strong
 
 -- A BATCH
 

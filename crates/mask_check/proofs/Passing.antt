@@ -35,7 +35,7 @@ operands_below c v n are le = go (gate_at c v) refl
 
 -- so they are places of a list that has one for each value
 pub operands_in : (c : Netlist) (places v : ℕ) (g : Option Gate) → IsCircuit c → v < value_count c → places ≡ value_count c → g ≡ gate_at c v → HasOperandsBelow places g
-operands_in c places v g is within size gate = rw (size, gate) (operands_below c v (value_count c) is.gates (omega arith))
+operands_in c places v g is within size gate = rw (size, gate) (operands_below c v (value_count c) is.formed.gates (omega arith))
 
 -- marks are passed downwards
 IsPassedTo-below : (g : Option Gate) (u v : ℕ) → HasOperandsBelow v g → IsPassedTo u g → u < v
@@ -141,10 +141,10 @@ IsPassed-step c start now v is within old = record {
     in_now = omega (arith, old.size)
 
     below : HasOperandsBelow (length base) g
-    below = operands_below c v (length base) is.gates (omega (arith, length-set now v 0))
+    below = operands_below c v (length base) is.formed.gates (omega (arith, length-set now v 0))
 
     not_above : (w : ℕ) → v ≤ w → IsPassedTo w g → ⊥
-    not_above w le to = let low = IsPassedTo-below g w v (operands_below c v v is.gates (omega arith)) to in omega arith
+    not_above w le to = let low = IsPassedTo-below g w v (operands_below c v v is.formed.gates (omega arith)) to in omega arith
 
     base_clear : (w : ℕ) → v ≤ w → (w ≡ v) ⊎ (w ≡ v → ⊥) → get_or base w 0 ≡ 0
     base_clear w le (inl e) = rw e (get_or-set_same now v 0 0 in_now)
@@ -181,7 +181,7 @@ met c start now v j is old h = go (old.goes j v (omega arith) h)
     go m = elim (cases_lt v m.value) [
       | inl lt ↦ absurd (unmarked now m.value j (old.clear m.value (omega arith)) m.is_marked)
       | inr le ↦
-          let e : m.value ≡ v = omega (arith, source_low c m.value v is.gates m.reaches) in
+          let e : m.value ≡ v = omega (arith, source_low c m.value v is.formed.gates m.reaches) in
           subst (λ (x : ℕ). HasBit (get_or now x 0) j) e m.is_marked.bit
     ]
 
@@ -241,7 +241,7 @@ lowest_start c left right n is clear = record {
   on_left = λ few. absurd (omega arith);
   on_right = λ few. absurd (omega arith);
   lowest = λ j s from l r.
-      let high = source_low c l.value s is.gates l.reaches in
+      let high = source_low c l.value s is.formed.gates l.reaches in
       absurd (unmarked left l.value j (clear l.value (omega arith)) l.is_marked);
 }
 

@@ -1,7 +1,7 @@
 -- Marks on values: each value has a word of 64 marks, one for each product of a batch.
-use Rattle.std.specs.Prelude.{◌≡◌, ℕ, ◌<◌, ◌≤◌, ◌⊎◌, List, slice_index, slice_set, bit_or, Some, None}
+use Rattle.std.specs.Prelude.{◌≡◌, ℕ, ◌<◌, ◌≤◌, ◌⊎◌, true, List, slice_index, slice_set, bit_or, Some, None}
 use Rattle.std.specs.declared.option.Option.{Option}
-use Rattle.std.specs.Int.{bit_at}
+use Rattle.mask_bits.specs.Reading.{bit}
 use Rattle.mask_circuit.specs.declared.gates.Gate.{Gate}
 use Rattle.mask_circuit.specs.declared.gates.Gate.TheVariants.{Zero, One, Xor, Not, And, Ref}
 use Rattle.mask_circuit.specs.Netlist.{Netlist, OperandsBelow}
@@ -10,7 +10,7 @@ use Rattle.mask_check.specs.declared.backward.Meeting.{Meeting}
 
 -- bit j of a word is set
 abbrev pub HasBit : ℕ → ℕ → Type 0
-HasBit word j = bit_at word j ≡ 1
+HasBit word j = bit j word ≡ true
 
 -- value v has mark j
 pub record IsMarked (words : List ℕ) (v j : ℕ) : Type 0 where

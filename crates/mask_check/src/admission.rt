@@ -48,7 +48,8 @@ impl Admitted {
     }
 }
 
-/// Admits a circuit where it is accepted; a refused circuit is dropped. The steps are those of `check`.
+/// Admits a circuit where it is accepted; a refused circuit is dropped. The steps are those of `check`: where memory runs
+/// out, no value was visited.
 pub fn admit<L: Ledger>(
     alloc: Global,
     circuit: Circuit,
@@ -59,6 +60,7 @@ pub fn admit<L: Ledger>(
     ensures secure { IfOk result (λ a. IsNIAtEachOrder a) }
     ensures refused { IfErr result (λ e. IsRefusal circuit e) }
     ensures steps { steps.new ≤ steps.old + most_steps circuit }
+    ensures unvisited { result ≡ Err AdmitError.NoMemory → steps.new ≡ steps.old }
 {
     let _values = circuit.values();
     match check(alloc, &circuit, steps) {

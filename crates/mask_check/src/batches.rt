@@ -1,7 +1,6 @@
 //! The products of a circuit, 64 at a time.
 
 ghost use Rattle.std.specs.Prelude.{◌≡◌, ℕ, ◌+◌, ◌<◌, ◌≤◌, length};
-ghost use Rattle.mask_circuit.specs.declared.limits.TheConstants.{MAX_VALUES};
 ghost use Rattle.mask_circuit.specs.Netlist.{IsCircuit, value_count};
 ghost use Rattle.mask_check.specs.Marks.{HasOperandsBelow, IsClearFrom};
 
@@ -27,7 +26,7 @@ impl Batch {
     /// Takes in the next value: a product gets the next mark, and gives it to its operands.
     fn take_in(&mut self, gate: Option<Gate>, left: &mut [u64], right: &mut [u64])
         requires room { self.old.count < 64 }
-        requires next { self.old.until < MAX_VALUES }
+        requires next { self.old.until < 1_000_000 }
         requires on_left { HasOperandsBelow (length left.old) gate }
         requires on_right { HasOperandsBelow (length right.old) gate }
         ensures batch { self.new ≡ batch_after gate self.old }

@@ -153,3 +153,31 @@ fn checks_a_second_batch(rt: HostRuntime) -> Result<(), Fail> {
     );
     Ok(())
 }
+
+// 100,000 gates of five kinds and 1,000 refreshes, which are the outputs.
+fn large_circuit(alloc: Global) -> Result<Circuit, CircuitError> {
+    let mut builder = Builder::new(alloc, 2)?;
+    for _round in 0..20_000 {
+        append(&mut builder, Gate::Zero)?;
+        append(&mut builder, Gate::One)?;
+        append(&mut builder, Gate::Xor(0, 1))?;
+        append(&mut builder, Gate::Not(0))?;
+        append(&mut builder, Gate::And(0, 1))?;
+    }
+    for _output in 0..1_000 {
+        let output = append(&mut builder, Gate::Ref(0))?;
+        if output < builder.values() {
+            builder.out(output)?;
+        }
+    }
+    Ok(builder.finish())
+}
+
+#[test]
+fn admits_and_strengthens_at_size(rt: HostRuntime) -> Result<(), Fail> {
+    let admitted = try_admit(rt.alloc(), large_circuit(rt.alloc())?)?;
+    let strong = strengthen(rt.alloc(), admitted)?;
+    assert_eq!(rt; strong.admitted().circuit().gates().len(), 101_000);
+    assert_eq!(rt; strong.admitted().circuit().outputs().len(), 1_000);
+    Ok(())
+}

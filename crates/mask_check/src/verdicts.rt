@@ -1,6 +1,6 @@
 //! The check of a circuit.
 
-ghost use Rattle.std.specs.Prelude.{◌≡◌, ℕ, ◌+◌, ◌<◌, ◌≤◌, length, IfOk};
+ghost use Rattle.std.specs.Prelude.{◌≡◌, ℕ, ◌+◌, ◌<◌, ◌≤◌, length, IfOk, OnErr};
 ghost use Rattle.mask_circuit.specs.Netlist.{IsCircuit, value_count};
 ghost use Rattle.mask_check.specs.Batches.{IsBatch};
 ghost use Rattle.mask_check.specs.Costs.{most_steps};
@@ -81,7 +81,8 @@ fn judge<L: Ledger>(
 
 /// Whether a circuit is accepted, and else its clash. An accepted circuit is non-interfering with any number of shares.
 ///
-/// A step is a value visited: each value once in search of products, and once more for each 64 products or fewer.
+/// A step is a value visited: each value once in search of products, and once more for each 64 products or fewer. Memory can
+/// run out before the first visit alone.
 pub fn check<L: Ledger>(
     alloc: Global,
     circuit: &Circuit,
@@ -90,6 +91,7 @@ pub fn check<L: Ledger>(
     ensures verdict { IfOk result (λ v. IsVerdict circuit.now v) }
     ensures secure { IfOk result (λ v. v ≡ Verdict.Accepted → IsNIAtEachOrder circuit.now) }
     ensures steps { steps.new ≤ steps.old + most_steps circuit.now }
+    ensures unvisited { OnErr result (steps.new ≡ steps.old) }
 {
     let values = circuit.values() as usize;
     let mut left = vec![in alloc; 0u64; values]?;

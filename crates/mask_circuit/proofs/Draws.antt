@@ -1,5 +1,5 @@
 -- The random bits that a circuit draws, as a product of two numbers.
-use Rattle.std.proofs.Common.{◌≡◌, ℕ, zero, suc, ◌+◌, ◌*◌, ◌/◌, ◌≤◌, cond, List, [], ◌∷◌, length, refl, arith}
+use Rattle.std.proofs.Common.{◌≡◌, ℕ, zero, suc, ◌+◌, ◌*◌, cond, List, [], ◌∷◌, length, refl, sym, arith}
 use Rattle.std.specs.List.{sum_by, count_by}
 use Rattle.std.proofs.lemmas.List.Sums.{sum_by-cons}
 use Rattle.mask_circuit.specs.declared.gates.Gate.{Gate}
@@ -24,17 +24,5 @@ sum_by-gate_draws n m (g ∷ gs) e =
     rw (sum_by-cons (gate_draws n) g gs, sum_by-cons (λ h. cond (is_product h) 1 0) g gs, sum_by-cons (λ h. cond (is_refresh h) 1 0) g gs)
     (omega (arith, gate_draws-pairs n m g e, sum_by-gate_draws n m gs e))
 
--- how many pairs 2 to 8 shares have
-length-pairs : (d : ℕ) → 1 ≤ d → d ≤ 7 → length (pairs (d + 1)) ≡ (d + 1) * d / 2
-length-pairs zero some few = absurd (omega arith)
-length-pairs (suc zero) some few = refl
-length-pairs (suc (suc zero)) some few = refl
-length-pairs (suc (suc (suc zero))) some few = refl
-length-pairs (suc (suc (suc (suc zero)))) some few = refl
-length-pairs (suc (suc (suc (suc (suc zero))))) some few = refl
-length-pairs (suc (suc (suc (suc (suc (suc zero)))))) some few = refl
-length-pairs (suc (suc (suc (suc (suc (suc (suc zero))))))) some few = refl
-length-pairs (suc (suc (suc (suc (suc (suc (suc (suc d)))))))) some few = absurd (omega arith)
-
-pub draws-product : (c : Netlist) (d : ℕ) → 1 ≤ d → d ≤ 7 → draws c (d + 1) ≡ ((d + 1) * d / 2) * (product_count c + refresh_count c)
-draws-product c d some few = sum_by-gate_draws (d + 1) _ c.gates (length-pairs d some few)
+pub draws-product : (c : Netlist) (n m : ℕ) → m ≡ length (pairs n) → draws c n ≡ m * (product_count c + refresh_count c)
+draws-product c n m e = sum_by-gate_draws n m c.gates (sym e)

@@ -5,7 +5,9 @@ use Rattle.mask_circuit.specs.declared.gates.Gate.TheVariants.{Xor, And, Ref}
 use Rattle.mask_circuit.specs.Netlist.{Netlist}
 use Rattle.mask_circuit.specs.Value.{plain}
 use Rattle.mask_circuit.specs.Ring.{bits}
-use Rattle.mask_circuit.specs.Wires.{Wire, Share, Shares, pairs, each, product_names, refresh_names, gate_wires, gate_out}
+use Rattle.mask_circuit.specs.declared.gates.Wire.{Wire}
+use Rattle.mask_circuit.specs.declared.gates.Wire.TheVariants.{Share}
+use Rattle.mask_circuit.specs.Wires.{Shares, pairs, each, product_names, refresh_names, gate_wires, gate_out}
 use Rattle.mask_circuit.specs.Expansion.{draws, wire_count}
 use Rattle.mask_circuit.specs.Probing.{hits, seen}
 use Rattle.mask_circuit.specs.Need.{need, left_need, right_need, refresh_need, ShareSet}

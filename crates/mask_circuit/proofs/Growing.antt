@@ -22,8 +22,10 @@ pub IsCircuit-with_gate : (c : Netlist) (g : Gate) → IsCircuit c → OperandsB
 IsCircuit-with_gate c g is below room =
     let grown : length (c.gates ++ g ∷ []) ≡ length c.gates + 1 = omega (arith, length-append c.gates (g ∷ [])) in
     record {
-      gates = AreGates-more c.inputs c.gates g is.gates below;
-      outputs = below_one_more c.outputs _ _ (omega arith) is.outputs;
+      formed = record {
+        gates = AreGates-more c.inputs c.gates g is.formed.gates below;
+        outputs = below_one_more c.outputs _ _ (omega arith) is.formed.outputs;
+      };
       few_values = omega arith;
       few_outputs = is.few_outputs;
     }

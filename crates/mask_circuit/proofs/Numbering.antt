@@ -10,9 +10,11 @@ use Rattle.std.proofs.lemmas.Option.{slice_get-map, slice_get-get_or}
 use Rattle.mask_circuit.specs.declared.gates.Gate.{Gate}
 use Rattle.mask_circuit.specs.declared.gates.Gate.TheVariants.{Zero, One, Xor, Not, And, Ref}
 use Rattle.mask_circuit.specs.Netlist.{Netlist, value_count}
-use Rattle.mask_circuit.specs.Wires.{Wire, Share, each, joined, share_names, gate_names, product_names, refresh_names}
+use Rattle.mask_circuit.specs.declared.gates.Wire.{Wire}
+use Rattle.mask_circuit.specs.declared.gates.Wire.TheVariants.{Share}
+use Rattle.mask_circuit.specs.Wires.{each, joined, share_names, gate_names, product_names, refresh_names}
 use Rattle.mask_circuit.specs.Acceptance.{gate_at}
-use Rattle.mask_circuit.specs.Expansion.{Place, names, names_from, names_by, names_of, wires_before, wire_count}
+use Rattle.mask_circuit.specs.Expansion.{CircuitWire, names, names_from, names_by, names_of, wires_before, wire_count}
 use Rattle.mask_circuit.proofs.GateAt.{AreGatesAt, AreGatesAt-all, gate_at_input}
 use Rattle.mask_circuit.proofs.Places.{length-each, slice_get-joined}
 
@@ -31,7 +33,7 @@ joined_same f g (suc n) h = ap₂ (λ xs ys. xs ++ ys) (joined_same f g n (λ i 
 -- NAMES
 
 -- the wires of value v with their names
-abbrev named : Netlist → ℕ → ℕ → List Place
+abbrev named : Netlist → ℕ → ℕ → List CircuitWire
 named c N v = map (λ w. (v, w)) (names_of c N v)
 
 -- the shares of an input by name

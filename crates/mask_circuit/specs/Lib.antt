@@ -3,8 +3,11 @@ pub mod Expansion
 pub mod Labels
 pub mod Need
 pub mod Netlist
+pub mod Pairs
+pub mod Privacy
 pub mod Probing
 pub mod Ring
+pub mod Sharing
 pub mod Shift
 pub mod Text
 pub mod Value

@@ -4,8 +4,9 @@ use Rattle.std.specs.List.{list_any, filter_map}
 use Rattle.mask_circuit.specs.declared.gates.Gate.{Gate}
 use Rattle.mask_circuit.specs.declared.gates.Gate.TheVariants.{Zero, One, Xor, Not, And, Ref}
 use Rattle.mask_circuit.specs.Netlist.{Netlist}
-use Rattle.mask_circuit.specs.Wires.{Wire, Share, Product, Fresh, Left, Right, Partial}
-use Rattle.mask_circuit.specs.Expansion.{Place, names}
+use Rattle.mask_circuit.specs.declared.gates.Wire.{Wire}
+use Rattle.mask_circuit.specs.declared.gates.Wire.TheVariants.{Share, Product, Fresh, Left, Right, Partial}
+use Rattle.mask_circuit.specs.Expansion.{CircuitWire, names}
 use Rattle.mask_circuit.specs.Probing.{ShareSets, same_wire}
 
 -- A set of shares of one value.
@@ -22,11 +23,11 @@ is_share (Right i j) = false
 is_share (Partial i k) = false
 
 -- the probes on wires of value n that are no output shares: its inner probes
-abbrev pub inner_probes : ℕ → List Place → List Wire
+abbrev pub inner_probes : ℕ → List CircuitWire → List Wire
 inner_probes n P = filter_map (λ p. cond (p.0 == n && not (is_share p.1)) (Some p.1) None) P
 
 -- the output shares of value v that are probed
-abbrev pub probed_shares : List Place → ℕ → ShareSet
+abbrev pub probed_shares : List CircuitWire → ℕ → ShareSet
 probed_shares P v i = list_any (λ p. p.0 == v && same_wire (Share i) p.1) P
 
 -- whether a wire of a product is a_i · b_i, some r_ij, or a partial sum of row i that isn't its last
@@ -92,13 +93,13 @@ demand (And u w) Q O v i = (v == u && left_need Q i) || (v == w && right_need Q 
 demand (Ref u) Q O v i = v == u && refresh_need Q i
 
 -- the demanded shares of each value, from the last of these gates back to the first, which makes value n
-abbrev pub need_from : List Place → List Gate → ℕ → ShareSets
+abbrev pub need_from : List CircuitWire → List Gate → ℕ → ShareSets
 need_from P [] n v i = probed_shares P v i
 need_from P (g ∷ gs) n v i =
     need_from P gs (suc n) v i || demand g (inner_probes n P) (need_from P gs (suc n) n) v i
 
 -- the wires of these numbers
-abbrev pub probes_at : Netlist → ℕ → List ℕ → List Place
+abbrev pub probes_at : Netlist → ℕ → List ℕ → List CircuitWire
 probes_at c N P = map (λ p. slice_index_or (names c N) p (0, Share 0)) P
 
 -- The need of the probes P: for each input the shares that are demanded in the end.

@@ -2,7 +2,6 @@
 use Rattle.std.specs.Prelude.{ℕ, suc, ◌+◌, ◌<◌, ◌≤◌, Bool, true, false, List, [], ◌∷◌, ◌++◌, length, All, count_by}
 use Rattle.mask_circuit.specs.declared.gates.Gate.{Gate}
 use Rattle.mask_circuit.specs.declared.gates.Gate.TheVariants.{Zero, One, Xor, Not, And, Ref}
-use Rattle.mask_circuit.specs.declared.limits.TheConstants.{MAX_VALUES, MAX_OUTPUTS}
 
 -- How many inputs, the gates in order, and the values handed out in order. Values are numbered from 0: the inputs
 -- first, then one for each gate.
@@ -28,12 +27,16 @@ abbrev pub AreGates : ℕ → List Gate → Type 0
 AreGates n [] = Unit {0}
 AreGates n (g ∷ gs) = OperandsBelow n g × AreGates (suc n) gs
 
--- operands are earlier values, outputs are values, and there are not too many of either
-pub record IsCircuit (c : Netlist) : Type 0 where
+-- operands are earlier values, and outputs are values
+pub record IsWellFormed (c : Netlist) : Type 0 where
   pub gates : AreGates c.inputs c.gates
-  pub outputs : All (λ u. u < c.inputs + length c.gates) c.outputs
-  pub few_values : c.inputs + length c.gates ≤ MAX_VALUES
-  pub few_outputs : length c.outputs ≤ MAX_OUTPUTS
+  pub outputs : All (λ u. u < value_count c) c.outputs
+
+-- so it is, with at most 1,000,000 values and 1,000,000 outputs
+pub record IsCircuit (c : Netlist) : Type 0 where
+  pub formed : IsWellFormed c
+  pub few_values : value_count c ≤ 1_000_000
+  pub few_outputs : length c.outputs ≤ 1_000_000
 
 -- a circuit of inputs alone
 abbrev pub only_inputs : ℕ → Netlist

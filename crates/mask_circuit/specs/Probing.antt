@@ -5,7 +5,9 @@ use Rattle.std.specs.List.{filter}
 use Rattle.mask_circuit.specs.Netlist.{Netlist}
 use Rattle.mask_circuit.specs.Value.{xor}
 use Rattle.mask_circuit.specs.Ring.{bits}
-use Rattle.mask_circuit.specs.Wires.{Wire, Share, Product, Fresh, Left, Right, Partial, Shares, each}
+use Rattle.mask_circuit.specs.declared.gates.Wire.{Wire}
+use Rattle.mask_circuit.specs.declared.gates.Wire.TheVariants.{Share, Product, Fresh, Left, Right, Partial}
+use Rattle.mask_circuit.specs.Wires.{Shares, each}
 use Rattle.mask_circuit.specs.Expansion.{names, wire_count, wires, draws}
 
 -- the bits on the wires of these numbers, in their order; a number may be repeated
@@ -49,7 +51,7 @@ IsSimulated c N P I = (x y : ℕ → Shares Bool) → AgreeOn c N I x y → (v :
 abbrev pub HasAtMost : Netlist → ℕ → ShareSets → ℕ → Type 0
 HasAtMost c N I t = (v : ℕ) → v < c.inputs → size N (I v) ≤ t
 
--- Non-interference: any t wires, t at most N - 1, are simulated from at most t shares of each input.
+-- Non-interference: any t wires, t at most N - 1, are simulatable from at most t shares of each input.
 abbrev pub IsNI : Netlist → ℕ → Type 0
 IsNI c N = (P : List ℕ) → All (λ p. p < wire_count c N) P → length P < N →
     (I : ShareSets) × HasAtMost c N I (length P) × IsSimulated c N P I
@@ -91,7 +93,7 @@ output_places c N O = joined_outputs c.outputs 0
     joined_outputs (u ∷ us) k = map (share_place c N u) (filter (O k) (each (λ i. i) N)) ++ joined_outputs us (suc k)
 
 -- Strong non-interference, for several outputs: t inner wires, together with any shares of output k as long as these
--- and the t wires are at most N - 1 for each k, are simulated from at most t shares of each input.
+-- and the t wires are at most N - 1 for each k, are simulatable from at most t shares of each input.
 abbrev pub IsSNI : Netlist → ℕ → Type 0
 IsSNI c N = (P : List ℕ) (O : ℕ → ℕ → Bool) →
     All (λ p. (p < wire_count c N) × IsInner c N p) P →

@@ -2,7 +2,7 @@
 use Rattle.std.specs.Prelude.{ℕ, ◌-◌, ◌^◌, Bool, true, false, ◌&&◌, bit_and, bit_xor}
 use Rattle.mask_circuit.specs.Value.{xor}
 
--- add is the exclusive or, and mul the conjunction
+-- add is XOR, and mul is AND
 pub record Ring (X : Type 0) : Type 0 where
   pub nought : X
   pub unit : X

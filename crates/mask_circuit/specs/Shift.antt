@@ -7,8 +7,10 @@ use Rattle.mask_circuit.specs.declared.gates.Gate.TheVariants.{Zero, One, Xor, N
 use Rattle.mask_circuit.specs.Netlist.{Netlist}
 use Rattle.mask_circuit.specs.Value.{xor}
 use Rattle.mask_circuit.specs.Ring.{bits}
-use Rattle.mask_circuit.specs.Wires.{Wire, Fresh, Left, Shares, pairs, row_sum, gate_draws, gate_wire}
-use Rattle.mask_circuit.specs.Expansion.{Place, Trace, shares_of, put, start}
+use Rattle.mask_circuit.specs.declared.gates.Wire.{Wire}
+use Rattle.mask_circuit.specs.declared.gates.Wire.TheVariants.{Fresh, Left}
+use Rattle.mask_circuit.specs.Wires.{Shares, pairs, row_sum, gate_draws, gate_wire}
+use Rattle.mask_circuit.specs.Expansion.{CircuitWire, Carried, shares_of, put, start}
 use Rattle.mask_circuit.specs.Probing.{same_wire}
 use Rattle.mask_circuit.specs.Need.{ShareSet, inner_probes, product_rows, refresh_need, need_from, probes_at}
 
@@ -94,7 +96,7 @@ gate_mask n (Not u) Q O s s' = []
 gate_mask n (And u v) Q O s s' = map (λ p. product_mask n Q O (sides_of s s' u) (sides_of s s' v) p.0 p.1) (pairs n)
 gate_mask n (Ref u) Q O s s' = map (λ p. refresh_mask n Q O (sides_of s s' u) p.0 p.1) (pairs n)
 
--- the sum of two lists of bits, as long as the first
+-- the XOR of two lists of bits, as long as the first
 abbrev pub add_bits : List Bool → List Bool → List Bool
 add_bits [] ms = []
 add_bits (b ∷ bs) [] = b ∷ bs
@@ -102,7 +104,7 @@ add_bits (b ∷ bs) (m ∷ ms) = xor b m ∷ add_bits bs ms
 
 -- Gate by gate forwards: t has the wires on the first side with the given tape r, t' those on the second side with the
 -- new tape so far. The first of the gates makes value n. The new tape is as long as the given one.
-abbrev pub shift_from : List Place → ℕ → List Gate → ℕ → Trace Bool → Trace Bool → List Bool → List Bool
+abbrev pub shift_from : List CircuitWire → ℕ → List Gate → ℕ → Carried Bool → Carried Bool → List Bool → List Bool
 shift_from P N [] n t t' r = r
 shift_from P N (g ∷ gs) n t t' r =
     let old = take (gate_draws N g) r in

@@ -4,7 +4,7 @@ use Rattle.mask_circuit.specs.declared.gates.Gate.{Gate}
 use Rattle.mask_circuit.specs.declared.gates.Gate.TheVariants.{Zero, One, Xor, Not, And, Ref}
 use Rattle.mask_circuit.specs.Netlist.{Netlist}
 
--- the sum of two bits
+-- the XOR of two bits
 abbrev pub xor : Bool → Bool → Bool
 xor true b = not b
 xor false b = b

@@ -7,6 +7,8 @@ use Rattle.std.specs.List.{flat_map}
 use Rattle.mask_circuit.specs.declared.gates.Gate.{Gate}
 use Rattle.mask_circuit.specs.declared.gates.Gate.TheVariants.{Zero, One, Xor, Not, And, Ref}
 use Rattle.mask_circuit.specs.Ring.{Ring}
+use Rattle.mask_circuit.specs.declared.gates.Wire.{Wire}
+use Rattle.mask_circuit.specs.declared.gates.Wire.TheVariants.{Share, Product, Fresh, Left, Right, Partial}
 
 -- f 0, f 1, .., f (n - 1)
 abbrev pub each : {A : Type 0} → (ℕ → A) → ℕ → List A
@@ -29,23 +31,6 @@ row_pairs n i = each (λ m. (i, suc i + m)) (n - suc i)
 -- all pairs of n shares: (0, 1), (0, 2), .., (0, n - 1), (1, 2), ..
 abbrev pub pairs : ℕ → List Pair
 pairs n = joined (row_pairs n) n
-
--- A wire of a gate, named by what it carries. a and b are the operands' shares, and r_ij is, above the diagonal, the
--- fresh bit of the pair (i, j) and, below it, the last wire of the pair (j, i).
-pub data Wire : Type 0 where
-  Share : ℕ → Wire
-  Product : ℕ → ℕ → Wire
-  Fresh : ℕ → ℕ → Wire
-  Left : ℕ → ℕ → Wire
-  Right : ℕ → ℕ → Wire
-  Partial : ℕ → ℕ → Wire
-
--- Share i      output share i, whichever wire carries it
--- Product i j  a_i · b_j
--- Fresh i j    r_ij, the fresh bit of the pair (i, j)
--- Left i j     v_ij = r_ij + a_i · b_j
--- Right i j    r_ji = v_ij + a_j · b_i
--- Partial i k  row i of a product summed up to column k; in a refresh share i after its update with share k
 
 -- the partner number m of share i, counted from 0: all shares but i, rising
 abbrev pub other : ℕ → ℕ → ℕ

@@ -14,7 +14,7 @@ use std::marker::Model;
 /// Why a builder refuses.
 #[derive(Clone, Copy, Debug, PartialEq, Eq)]
 pub enum CircuitError {
-    /// The circuit would have more than `MAX_VALUES` values or `MAX_OUTPUTS` outputs.
+    /// The circuit would have more than 1,000,000 values or 1,000,000 outputs.
     TooManyValues,
     /// There is no memory.
     NoMemory,
@@ -47,8 +47,8 @@ impl Model for Builder {
 impl Builder {
     /// A builder that has so many inputs and nothing else; it takes no memory.
     pub fn new(alloc: Global, inputs: u32) -> Result<Builder, CircuitError>
-        ensures made { inputs ≤ MAX_VALUES → IsOkAnd result (λ b. b ≡ only_inputs inputs) }
-        ensures full { IsErrOf result CircuitError.TooManyValues ↔ MAX_VALUES < inputs }
+        ensures made { inputs ≤ 1_000_000 → IsOkAnd result (λ b. b ≡ only_inputs inputs) }
+        ensures full { IsErrOf result CircuitError.TooManyValues ↔ 1_000_000 < inputs }
     {
         if inputs > MAX_VALUES {
             return Err(CircuitError::TooManyValues);
@@ -92,7 +92,7 @@ impl Builder {
     fn append(&mut self, gate: Gate) -> Result<u32, CircuitError>
         requires { OperandsBelow (value_count self.old) gate }
         ensures made { IfOk result (λ v. (v ≡ value_count self.old) × (self.new ≡ with_gate self.old gate)) }
-        ensures full { IsErrOf result CircuitError.TooManyValues ↔ MAX_VALUES ≤ value_count self.old }
+        ensures full { IsErrOf result CircuitError.TooManyValues ↔ 1_000_000 ≤ value_count self.old }
         ensures same { OnErr result (self.new ≡ self.old) }
     {
         let value = self.values();
@@ -106,7 +106,7 @@ impl Builder {
     /// Appends the bit 0. Ok is the number of the new value.
     pub fn zero(&mut self) -> Result<u32, CircuitError>
         ensures made { IfOk result (λ v. (v ≡ value_count self.old) × (self.new ≡ with_gate self.old Zero)) }
-        ensures full { IsErrOf result CircuitError.TooManyValues ↔ MAX_VALUES ≤ value_count self.old }
+        ensures full { IsErrOf result CircuitError.TooManyValues ↔ 1_000_000 ≤ value_count self.old }
         ensures same { OnErr result (self.new ≡ self.old) }
     {
         self.append(Gate::Zero)
@@ -115,28 +115,28 @@ impl Builder {
     /// Appends the bit 1.
     pub fn one(&mut self) -> Result<u32, CircuitError>
         ensures made { IfOk result (λ v. (v ≡ value_count self.old) × (self.new ≡ with_gate self.old One)) }
-        ensures full { IsErrOf result CircuitError.TooManyValues ↔ MAX_VALUES ≤ value_count self.old }
+        ensures full { IsErrOf result CircuitError.TooManyValues ↔ 1_000_000 ≤ value_count self.old }
         ensures same { OnErr result (self.new ≡ self.old) }
     {
         self.append(Gate::One)
     }
 
-    /// Appends the exclusive or of two values.
+    /// Appends the XOR of two values.
     pub fn xor(&mut self, u: u32, v: u32) -> Result<u32, CircuitError>
         requires u_known { u < value_count self.old }
         requires v_known { v < value_count self.old }
         ensures made { IfOk result (λ w. (w ≡ value_count self.old) × (self.new ≡ with_gate self.old (Xor u v))) }
-        ensures full { IsErrOf result CircuitError.TooManyValues ↔ MAX_VALUES ≤ value_count self.old }
+        ensures full { IsErrOf result CircuitError.TooManyValues ↔ 1_000_000 ≤ value_count self.old }
         ensures same { OnErr result (self.new ≡ self.old) }
     {
         self.append(Gate::Xor(u, v))
     }
 
-    /// Appends the negation of a value.
+    /// Appends the NOT of a value.
     pub fn not(&mut self, u: u32) -> Result<u32, CircuitError>
         requires u_known { u < value_count self.old }
         ensures made { IfOk result (λ w. (w ≡ value_count self.old) × (self.new ≡ with_gate self.old (Not u))) }
-        ensures full { IsErrOf result CircuitError.TooManyValues ↔ MAX_VALUES ≤ value_count self.old }
+        ensures full { IsErrOf result CircuitError.TooManyValues ↔ 1_000_000 ≤ value_count self.old }
         ensures same { OnErr result (self.new ≡ self.old) }
     {
         self.append(Gate::Not(u))
@@ -147,7 +147,7 @@ impl Builder {
         requires u_known { u < value_count self.old }
         requires v_known { v < value_count self.old }
         ensures made { IfOk result (λ w. (w ≡ value_count self.old) × (self.new ≡ with_gate self.old (And u v))) }
-        ensures full { IsErrOf result CircuitError.TooManyValues ↔ MAX_VALUES ≤ value_count self.old }
+        ensures full { IsErrOf result CircuitError.TooManyValues ↔ 1_000_000 ≤ value_count self.old }
         ensures same { OnErr result (self.new ≡ self.old) }
     {
         self.append(Gate::And(u, v))
@@ -157,7 +157,7 @@ impl Builder {
     pub fn refresh(&mut self, u: u32) -> Result<u32, CircuitError>
         requires u_known { u < value_count self.old }
         ensures made { IfOk result (λ w. (w ≡ value_count self.old) × (self.new ≡ with_gate self.old (Ref u))) }
-        ensures full { IsErrOf result CircuitError.TooManyValues ↔ MAX_VALUES ≤ value_count self.old }
+        ensures full { IsErrOf result CircuitError.TooManyValues ↔ 1_000_000 ≤ value_count self.old }
         ensures same { OnErr result (self.new ≡ self.old) }
     {
         self.append(Gate::Ref(u))
@@ -167,7 +167,7 @@ impl Builder {
     pub fn out(&mut self, u: u32) -> Result<(), CircuitError>
         requires u_known { u < value_count self.old }
         ensures made { OnOk result (self.new ≡ with_output self.old u) }
-        ensures full { IsErrOf result CircuitError.TooManyValues ↔ MAX_OUTPUTS ≤ length self.old.outputs }
+        ensures full { IsErrOf result CircuitError.TooManyValues ↔ 1_000_000 ≤ length self.old.outputs }
         ensures same { OnErr result (self.new ≡ self.old) }
     {
         if self.outputs.len() >= MAX_OUTPUTS as usize {

@@ -10,7 +10,7 @@ use std::marker::Model;
 /// Inputs, gates and outputs, in the order in which they were made.
 ///
 /// Values are numbered from 0: the inputs first, then one for each gate. The operands of a gate are earlier values,
-/// the outputs are values, and the limits `MAX_VALUES` and `MAX_OUTPUTS` hold.
+/// the outputs are values, and there are at most 1,000,000 of either.
 #[derive(Drop)]
 pub struct Circuit {
     pub(crate) inputs: u32,

@@ -14,7 +14,7 @@ pub const MAX_GROUPS: usize = 1_000;
 /// A circuit with the groups of its inputs and of its outputs, each in order.
 ///
 /// Names are in form, each stands once in its list, no group is empty, and the groups of a list
-/// stand for all inputs or all outputs. Neither list has more than `MAX_GROUPS` groups.
+/// stand for all inputs or all outputs. Neither list has more than 1,000 groups.
 #[derive(Drop)]
 pub struct Labelled {
     circuit: Circuit,

@@ -9,16 +9,18 @@ mod gates;
 mod groups;
 mod labelled;
 mod limits;
+mod pairs;
 mod queries;
 mod steps;
 mod wires;
 
 pub use builders::{Builder, CircuitError};
 pub use circuits::Circuit;
-pub use gates::Gate;
+pub use gates::{Gate, Wire};
 pub use groups::Group;
 pub use labelled::{Labelled, MAX_GROUPS};
 pub use limits::{MAX_OUTPUTS, MAX_VALUES};
+pub use pairs::{other, pair_at, pair_count, pair_number};
 pub use steps::Steps;
 pub use wires::WirePlace;
 

@@ -7,6 +7,7 @@ ghost use Rattle.mask_circuit.specs.Expansion.{draws};
 
 use crate::circuits::Circuit;
 use crate::gates::Gate;
+use crate::pairs::pair_count;
 use std::alloc::{AllocError, Global};
 
 impl Circuit {
@@ -29,7 +30,7 @@ impl Circuit {
         ensures bits { result ≡ draws self.now (d + 1) }
         ensures product { result ≡ ((d + 1) * d / 2) * (product_count self.now + refresh_count self.now) }
     {
-        let pairs = ((d + 1) * d / 2) as u64;
+        let pairs = pair_count(d as usize + 1) as u64;
         pairs * (self.products() as u64 + self.refreshes() as u64)
     }
 

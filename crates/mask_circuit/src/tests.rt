@@ -13,7 +13,7 @@ fn refuses_one_value_too_many(rt: HostRuntime) -> Result<(), Fail> {
     Ok(())
 }
 
-// A product of an input and the refreshed sum of two: what a copy, a look at its gates and its random bits give.
+// A product of an input and the refreshed XOR of two: what a copy, a look at its gates and its random bits give.
 #[test]
 fn answers_about_a_circuit(rt: HostRuntime) -> Result<(), Fail> {
     let mut builder = Builder::new(rt.alloc(), 2)?;
@@ -55,5 +55,22 @@ fn numbers_the_wires(rt: HostRuntime) -> Result<(), Fail> {
         assert!(rt; circuit.wire_place(1, 6) == WirePlace { value: 2, part: 2 });
         assert!(rt; circuit.wire_place(1, 8) == WirePlace { value: 3, part: 1 });
     }
+    Ok(())
+}
+
+// 100,000 gates and as many outputs, copied and put into groups.
+#[test]
+fn copies_at_size(rt: HostRuntime) -> Result<(), Fail> {
+    let mut builder = Builder::new(rt.alloc(), 1)?;
+    for _gate in 0..100_000 {
+        let value = builder.zero()?;
+        if value < builder.values() {
+            builder.out(value)?;
+        }
+    }
+    let copy = builder.finish().copy(rt.alloc())?;
+    let labelled = Labelled::plain(rt.alloc(), copy)?;
+    assert_eq!(rt; labelled.circuit().gates().len(), 100_000);
+    assert_eq!(rt; labelled.circuit().outputs().len(), 100_000);
     Ok(())
 }

@@ -2,11 +2,13 @@
 
 ghost use Rattle.std.specs.Prelude.{◌≡◌, ◌+◌, ◌<◌, ◌≤◌, Some, length, slice_get, slice_index_or};
 ghost use Rattle.mask_circuit.specs.Netlist.{value_count};
-ghost use Rattle.mask_circuit.specs.Wires.{Share, gate_names};
+ghost use Rattle.mask_circuit.specs.declared.gates.Wire.TheVariants.{Share};
+ghost use Rattle.mask_circuit.specs.Wires.{gate_names};
 ghost use Rattle.mask_circuit.specs.Expansion.{names, names_of, wires_before, wire_count};
 
 use crate::circuits::Circuit;
 use crate::gates::Gate;
+use crate::pairs::pair_count;
 
 /// A wire of a circuit: the value whose input or gate makes it, and its local number there.
 #[derive(Clone, Copy, Debug, PartialEq, Eq)]
@@ -78,7 +80,7 @@ fn gate_wires(shares: u32, gate: Gate) -> u32
     ensures count { result ≡ length (gate_names shares gate) }
     ensures most { result ≤ 204 }
 {
-    let pairs = shares * (shares - 1) / 2;
+    let pairs = pair_count(shares as usize) as u32;
     match gate {
         Gate::And(_, _) => shares * shares + 3 * pairs + shares * (shares - 1),
         Gate::Ref(_) => 3 * pairs,

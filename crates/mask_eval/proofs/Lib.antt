@@ -1,4 +1,5 @@
-pub mod Runs
 pub mod LaneRuns
 pub mod Lists
+pub mod Runs
 pub mod Shared
+pub mod Told

@@ -1,6 +1,7 @@
 -- Records that are filled lane by lane.
-use Rattle.std.proofs.Common.{◌≡◌, ℕ, zero, suc, ◌+◌, ◌<◌, List, [], ◌∷◌, ◌++◌, length, map, drop, get_or, All, refl, ap, ap₂, sym, subst, ◌∙◌, arith, length-drop, append_assoc}
-use Rattle.std.proofs.lemmas.List.{get_or-drop, ext_get_or, length-map, length_push, map-append}
+use Rattle.std.proofs.Common.{◌≡◌, ℕ, zero, suc, ◌+◌, ◌*◌, ◌<◌, List, [], ◌∷◌, ◌++◌, length, map, take, drop, get_or, All, refl, ap, ap₂, sym, subst, ◌∙◌, arith, length-drop, append_assoc}
+use Rattle.std.proofs.lemmas.List.{get_or-drop, ext_get_or, length-map, length_push, map-append, append-nil, take_more}
+use Rattle.std.specs.List.{concat}
 use Rattle.std.proofs.lemmas.List.Elements.{All-push}
 use Rattle.std.proofs.Math.ListN.{get_or-map}
 use Rattle.mask_bits.specs.Lanes.{lane}
@@ -80,3 +81,19 @@ added_more c order n old items new s added is e =
             (All-push (IsBlank c order) (map as_told added.more) (as_told s) added.blank.each_is is);
       };
     }
+
+-- one list more, at the end
+concat_push : (xss : List (List ℕ)) (xs : List ℕ) → concat (xss ++ xs ∷ []) ≡ concat xss ++ xs
+concat_push [] xs = append-nil xs
+concat_push (ys ∷ xss) xs = ap (λ (zs : List ℕ). ys ++ zs) (concat_push xss xs) ∙ sym (append_assoc ys (concat xss) xs)
+
+-- words that hold k lists of n, one after another, hold one list more
+pub concat_more : (n k : ℕ) (values : List (List ℕ)) (value words words' : List ℕ) → k < length values → value ≡ get_or values k [] →
+    take (n * k) words ≡ concat (take k values) → take (n * k + n) words' ≡ take (n * k) words ++ value → take (n * (k + 1)) words' ≡ concat (take (k + 1) values)
+concat_more n k values value words words' lt value_is before now =
+    let end : n * (k + 1) ≡ n * k + n = omega arith in
+    rw end
+    (now
+    ∙ ap₂ (λ (xs ys : List ℕ). xs ++ ys) before value_is
+    ∙ sym (concat_push (take k values) (get_or values k []))
+    ∙ ap concat (sym (take_more values k [] lt)))

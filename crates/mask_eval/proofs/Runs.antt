@@ -8,9 +8,11 @@ use Rattle.mask_circuit.specs.declared.gates.Gate.{Gate}
 use Rattle.mask_circuit.specs.declared.gates.Gate.TheVariants.{Zero, One, Xor, Not, And, Ref}
 use Rattle.mask_circuit.specs.Netlist.{OperandsBelow, AreGates}
 use Rattle.mask_circuit.specs.Ring.{Ring}
-use Rattle.mask_circuit.specs.Wires.{Wire, Share, Shares, pairs, fresh_of, cross, fresh_between, gate_draws, gate_wire, gate_out}
-use Rattle.mask_circuit.specs.Expansion.{Trace, shares_of, put, start, run}
-use Rattle.mask_laws.proofs.Traces.{put-same, put-other}
+use Rattle.mask_circuit.specs.declared.gates.Wire.{Wire}
+use Rattle.mask_circuit.specs.declared.gates.Wire.TheVariants.{Share}
+use Rattle.mask_circuit.specs.Wires.{Shares, pairs, fresh_of, cross, fresh_between, gate_draws, gate_wire, gate_out}
+use Rattle.mask_circuit.specs.Expansion.{Carried, shares_of, put, start, run}
+use Rattle.mask_laws.proofs.Carrying.{put-same, put-other}
 use Rattle.mask_shares.specs.Sharing.{listed, all_listed}
 use Rattle.mask_shares.proofs.Lists.{get_or-each}
 use Rattle.mask_gadget.proofs.Made.{map-each}
@@ -34,7 +36,7 @@ module _ {X : Type 0} (R : Ring X) where
       (ap₂ R.add (ap (R.add (r j i)) (ap₂ R.mul aj bi)) (ap₂ R.mul ai bj))
 
   -- an output share of a gate depends on the operands' shares alone
-  share-same : (N n : ℕ) (g : Gate) (s s' : ℕ → Shares X) (r : List X) → OperandsBelow n g → SameShares N n s s' →
+  pub share-same : (N n : ℕ) (g : Gate) (s s' : ℕ → Shares X) (r : List X) → OperandsBelow n g → SameShares N n s s' →
       (i : ℕ) → i < N → gate_wire R N g s r (Share i) ≡ gate_wire R N g s' r (Share i)
   share-same zero n g s s' r below same i lt = absurd (omega arith)
   share-same (suc N) n Zero s s' r below same i lt = refl
@@ -50,7 +52,7 @@ module _ {X : Type 0} (R : Ring X) where
       row_sum-same R (s u i) (s' u i) term term i N (same u i below lt) (λ j le ne. refl)
 
   -- so do the shares of all later values
-  pub run-same : (N : ℕ) (gs : List Gate) (n : ℕ) (t t' : Trace X) (r : List X) → AreGates n gs → SameShares N n (shares_of t) (shares_of t') →
+  pub run-same : (N : ℕ) (gs : List Gate) (n : ℕ) (t t' : Carried X) (r : List X) → AreGates n gs → SameShares N n (shares_of t) (shares_of t') →
       SameShares N (n + length gs) (shares_of (run R N gs n t r)) (shares_of (run R N gs n t' r))
   run-same N [] n t t' r are same u i lu li = same u i (omega arith) li
   run-same N (g ∷ gs) n t t' r are same u i lu li =
@@ -61,7 +63,7 @@ module _ {X : Type 0} (R : Ring X) where
       u i (omega arith) li
 
   -- a run reads as many fresh bits as it draws
-  pub run-take : (N : ℕ) (gs : List Gate) (n : ℕ) (t : Trace X) (r : List X) →
+  pub run-take : (N : ℕ) (gs : List Gate) (n : ℕ) (t : Carried X) (r : List X) →
       run R N gs n t (take (sum_by (gate_draws N) gs) r) ≡ run R N gs n t r
   run-take N [] n t r = refl
   run-take N (g ∷ gs) n t r =
@@ -74,7 +76,7 @@ module _ {X : Type 0} (R : Ring X) where
       ∙ run-take N gs (suc n) _ (drop d r)
 
   -- the shares of a list of values, one of which is new
-  set-same : (N n : ℕ) (g : Gate) (values : List (List X)) (out r : List X) → n < length values → out ≡ gate_out R N g (all_listed R values) r →
+  pub set-same : (N n : ℕ) (g : Gate) (values : List (List X)) (out r : List X) → n < length values → out ≡ gate_out R N g (all_listed R values) r →
       SameShares N (suc n) (all_listed R (set values n out)) (shares_of (put n (gate_wire R N g (all_listed R values) r) (start R (all_listed R values))))
   set-same N n g values out r room is u i lu li = go (cases_order u n)
     where

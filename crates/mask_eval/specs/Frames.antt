@@ -14,7 +14,7 @@ abbrev pub input_values : Held → List (List ℕ)
 input_values f = take f.inputs f.values
 
 -- it has room for this circuit
-pub record Fits (f : Held) (c : Netlist) : Type 0 where
+pub record IsFrameOf (f : Held) (c : Netlist) : Type 0 where
   pub inputs : f.inputs ≡ c.inputs
   pub values : length f.values ≡ value_count c
   pub outputs : length f.outputs ≡ length c.outputs

@@ -1,3 +1,4 @@
 pub mod Frames
 pub mod Listing
+pub mod Telling
 pub mod Watching

@@ -8,22 +8,23 @@ ghost use Rattle.mask_circuit.specs.Value.{plain};
 ghost use Rattle.mask_circuit.specs.Expansion.{draws, outs};
 ghost use Rattle.mask_shares.specs.Sharing.{all_listed, unmasked};
 ghost use Rattle.mask_tape.specs.Drawn.{ahead, left};
-ghost use Rattle.mask_eval.specs.Frames.{Fits, input_values};
+ghost use Rattle.mask_eval.specs.Frames.{IsFrameOf, input_values};
 ghost use Rattle.mask_eval.specs.Watching.{reports, told_more};
 
 use crate::frames::Frame;
-use crate::gates::eval_gates;
+use crate::gates::eval_on;
 use crate::watching::Watch;
-use crate::words::{copy_values, write_values};
+use crate::words::{copy_values, write_shares, write_values};
 use mask_check::Admitted;
 use mask_circuit::Steps;
+use mask_gadget::Unheard;
 use mask_tape::Coins;
 use std::sync::ledger::Ledger;
 
 /// Evaluates the circuit on the shares of its inputs, in all lanes at once, and tells the watch.
 ///
-/// Each product and each refresh draws one coin for each pair of shares. A step is one gate, for all lanes. No share is
-/// unmasked, and no memory is taken.
+/// It is [`eval_on`] on the machine that keeps nothing. Each product and each refresh draws one coin for each pair of
+/// shares. A step is one gate, for all lanes. No share is unmasked, and no memory is taken.
 pub fn eval<const N: usize, W: Watch, L: Ledger>(
     circuit: &Admitted,
     frame: &mut Frame<N>,
@@ -36,7 +37,7 @@ pub fn eval<const N: usize, W: Watch, L: Ledger>(
     requires few { N ≤ 8 }
     requires some_lanes { 1 ≤ lanes }
     requires few_lanes { lanes ≤ 64 }
-    requires fits { Fits frame.old circuit.now }
+    requires fits { IsFrameOf frame.old circuit.now }
     requires coins { draws circuit.now N ≤ left coins.old }
     requires ready { W.ready watch.old circuit.now (N - 1) lanes }
     ensures words { frame.new.outputs ≡ outs words circuit.now N (all_listed words (input_values frame.old)) (ahead (draws circuit.now N) coins.old) }
@@ -49,25 +50,20 @@ pub fn eval<const N: usize, W: Watch, L: Ledger>(
     ensures plain { (l : ℕ) → l < 64 → map (λ v. unmasked bits (lane l v)) frame.new.outputs
         ≡ plain circuit.now (map (λ v. unmasked bits (lane l v)) (input_values frame.old)) }
     ensures inputs { input_values frame.new ≡ input_values frame.old }
-    ensures fits { Fits frame.new circuit.now }
+    ensures fits { IsFrameOf frame.new circuit.now }
     ensures spent { coins.new.used ≡ coins.old.used + draws circuit.now N }
     ensures same { coins.new.words ≡ coins.old.words }
     ensures steps { steps.new ≡ steps.old + length circuit.now.gates }
     ensures told { W.told watch.new ≡ told_more (W.told watch.old)
         (reports circuit.now (N - 1) (concat (input_values frame.old)) (ahead (draws circuit.now N) coins.old) (concat frame.new.outputs) lanes) }
 {
-    let circuit = circuit.circuit();
+    let admitted = circuit;
+    let circuit = admitted.circuit();
     let used = coins.used();
-    eval_gates(
-        circuit.gates(),
-        frame.inputs,
-        &mut frame.values,
-        coins,
-        steps,
-    );
+    eval_on(admitted, &mut frame.values, coins, &mut Unheard, steps);
     copy_values(circuit.outputs(), &frame.values, &mut frame.outputs);
     write_values(&frame.values[..frame.inputs], &mut frame.input_words);
-    write_values(&frame.outputs, &mut frame.output_words);
+    write_shares(&frame.outputs, &mut frame.output_words);
     let spent = &coins.words()[used..coins.used()];
     watch.report(
         circuit,

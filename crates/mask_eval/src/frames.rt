@@ -2,7 +2,7 @@
 
 ghost use Rattle.std.specs.Prelude.{◌≡◌, ◌+◌, ◌*◌, ◌<◌, ◌≤◌, length, replicate, slice_set, IfOk};
 ghost use Rattle.mask_circuit.specs.Netlist.{Netlist, value_count};
-ghost use Rattle.mask_eval.specs.Frames.{Held, Fits};
+ghost use Rattle.mask_eval.specs.Frames.{Held, IsFrameOf};
 
 use mask_check::Admitted;
 use mask_shares::Shares;
@@ -15,7 +15,7 @@ use std::marker::Model;
 #[derive(Drop)]
 pub struct Frame<const N: usize> {
     pub(crate) inputs: usize,
-    pub(crate) values: Vec<Shares<N>>,
+    pub(crate) values: Vec<[u64; N]>,
     pub(crate) outputs: Vec<Shares<N>>,
     pub(crate) input_words: Vec<u64>,
     pub(crate) output_words: Vec<u64>,
@@ -39,16 +39,15 @@ impl<const N: usize> Frame<N> {
     pub fn new(alloc: Global, circuit: &Admitted) -> Result<Frame<N>, AllocError>
         requires some { 2 ≤ N }
         requires few { N ≤ 8 }
-        ensures fits { IfOk result (λ f. Fits f circuit.now) }
+        ensures fits { IfOk result (λ f. IsFrameOf f circuit.now) }
         ensures values { IfOk result (λ f. f.values ≡ replicate (value_count circuit.now) (replicate N 0)) }
         ensures outputs { IfOk result (λ f. f.outputs ≡ replicate (length circuit.now.outputs) (replicate N 0)) }
     {
         let circuit = circuit.circuit();
         let inputs = circuit.inputs() as usize;
         let count = circuit.outputs().len();
-        let zero = Shares::from_parts([0; N]);
-        let values = vec![in alloc; zero; circuit.values() as usize]?;
-        let outputs = vec![in alloc; zero; count]?;
+        let values = vec![in alloc; [0; N]; circuit.values() as usize]?;
+        let outputs = vec![in alloc; Shares::from_parts([0; N]); count]?;
         let input_words = vec![in alloc; 0; N * inputs]?;
         let output_words = vec![in alloc; 0; N * count]?;
         Ok(Frame {
@@ -65,9 +64,9 @@ impl<const N: usize> Frame<N> {
         requires few { N ≤ 8 }
         requires input { input < self.old.inputs }
         ensures value { self.new ≡ record self.old { values = slice_set self.old.values input value.entry } }
-        ensures fits { (c : Netlist) → Fits self.old c → Fits self.new c }
+        ensures fits { (c : Netlist) → IsFrameOf self.old c → IsFrameOf self.new c }
     {
-        self.values[input as usize] = value;
+        self.values[input as usize] = value.parts();
     }
 
     /// The shares of the outputs in order, as the latest evaluation left them.

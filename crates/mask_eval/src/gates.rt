@@ -1,69 +1,79 @@
-//! Gates on shares, one after another.
+//! All gates of a circuit, one after another.
 
-ghost use Rattle.std.specs.Prelude.{◌≡◌, ℕ, ◌+◌, ◌<◌, ◌≤◌, [], length, take, sum_by};
+ghost use Rattle.std.specs.Prelude.{◌≡◌, ℕ, ◌+◌, ◌<◌, ◌≤◌, length, take, map, sum_by};
 ghost use Rattle.mask_circuit.specs.Ring.{words};
-ghost use Rattle.mask_circuit.specs.Wires.{gate_out, gate_draws};
-ghost use Rattle.mask_circuit.specs.Netlist.{OperandsBelow, AreGates};
-ghost use Rattle.mask_circuit.specs.Expansion.{start, run, shares_of};
+ghost use Rattle.mask_circuit.specs.Wires.{gate_draws, gate_names};
+ghost use Rattle.mask_circuit.specs.Netlist.{AreGates, value_count};
+ghost use Rattle.mask_circuit.specs.Expansion.{start, run, shares_of, expand, draws, wire_count};
 ghost use Rattle.mask_shares.specs.Sharing.{all_listed};
 ghost use Rattle.mask_tape.specs.Drawn.{ahead, left};
+ghost use Rattle.mask_gadget.specs.Wiring.{told_more};
 ghost use Rattle.mask_eval.specs.Frames.{SameShares};
+ghost use Rattle.mask_eval.specs.Telling.{made_wires, wires_from};
 
+use mask_check::Admitted;
 use mask_circuit::{Gate, Steps};
-use mask_gadget::{Wires, and_gadget, not_gadget, ref_gadget, xor_gadget};
-use mask_shares::Shares;
-use mask_tape::Coins;
+use mask_gadget::{Wiring, gate_on};
 use std::sync::ledger::Ledger;
 
-// The output shares of a gate on the shares of the values before it.
-fn gate_shares<const N: usize>(
-    gate: Gate,
-    values: &[Shares<N>],
-    coins: &mut Coins,
-    wires: &mut Wires,
-) -> Shares<N>
+/// Computes the values of a circuit on this machine, from the shares of its inputs, which are the first values.
+///
+/// What the machine is told are all wires of the circuit but its inputs, in the order of their numbers. Each product and
+/// each refresh draws one coin for each pair of shares. A step is one gate.
+pub fn eval_on<const N: usize, W: Wiring, L: Ledger>(
+    circuit: &Admitted,
+    values: &mut [[W::Word; N]],
+    coins: &mut W::Coins,
+    wires: &mut W,
+    steps: &mut Steps<L>,
+)
     requires some { 2 ≤ N }
     requires few { N ≤ 8 }
-    requires operands { OperandsBelow (length values.now) gate }
-    requires coins { gate_draws N gate ≤ left coins.old }
-    ensures shares { result ≡ gate_out words N gate (all_listed words values.now) (ahead (gate_draws N gate) coins.old) }
-    ensures spent { coins.new.used ≡ coins.old.used + gate_draws N gate }
-    ensures same { coins.new.words ≡ coins.old.words }
+    requires values { length values.old ≡ value_count circuit.now }
+    requires coins { draws circuit.now N ≤ left (W.drawn coins.old) }
+    requires room { wire_count circuit.now N ≤ W.room wires.old }
+    ensures shares { SameShares N (value_count circuit.now) (all_listed words (map (map W.carried) values.new))
+        (shares_of (expand words circuit.now N (all_listed words (map (map W.carried) values.old)) (ahead (draws circuit.now N) (W.drawn coins.old)))) }
+    ensures told { W.told wires.new ≡ told_more (W.told wires.old)
+        (made_wires words circuit.now N (all_listed words (map (map W.carried) values.old)) (ahead (draws circuit.now N) (W.drawn coins.old))) }
+    ensures room { W.room wires.old ≤ W.room wires.new + wire_count circuit.now N }
+    ensures inputs { take circuit.now.inputs values.new ≡ take circuit.now.inputs values.old }
+    ensures spent { (W.drawn coins.new).used ≡ (W.drawn coins.old).used + draws circuit.now N }
+    ensures same { (W.drawn coins.new).words ≡ (W.drawn coins.old).words }
+    ensures steps { steps.new ≡ steps.old + length circuit.now.gates }
 {
-    match gate {
-        Gate::Zero => Shares::public(0),
-        Gate::One => Shares::public(u64::MAX),
-        Gate::Xor(u, v) => xor_gadget(values[u as usize], values[v as usize]),
-        Gate::Not(u) => not_gadget(values[u as usize]),
-        Gate::And(u, v) => and_gadget(values[u as usize], values[v as usize], coins, wires),
-        Gate::Ref(u) => ref_gadget(values[u as usize], coins, wires),
-    }
+    let circuit = circuit.circuit();
+    let inputs = circuit.inputs() as usize;
+    eval_gates(circuit.gates(), inputs, values, coins, wires, steps);
 }
 
-/// Puts the output shares of each gate in its place behind the inputs.
-pub(crate) fn eval_gates<const N: usize, L: Ledger>(
+// Puts the output shares of each gate in its place behind the inputs.
+fn eval_gates<const N: usize, W: Wiring, L: Ledger>(
     gates: &[Gate],
     inputs: usize,
-    values: &mut [Shares<N>],
-    coins: &mut Coins,
+    values: &mut [[W::Word; N]],
+    coins: &mut W::Coins,
+    wires: &mut W,
     steps: &mut Steps<L>,
 )
     requires some { 2 ≤ N }
     requires few { N ≤ 8 }
     requires gates { AreGates inputs gates.now }
-    requires room { length values.old ≡ inputs + length gates.now }
-    requires coins { sum_by (gate_draws N) gates.now ≤ left coins.old }
-    ensures shares { SameShares N (length values.old) (all_listed words values.new)
-        (shares_of (run words N gates.now inputs (start words (all_listed words values.old)) (ahead (sum_by (gate_draws N) gates.now) coins.old))) }
+    requires values { length values.old ≡ inputs + length gates.now }
+    requires coins { sum_by (gate_draws N) gates.now ≤ left (W.drawn coins.old) }
+    requires room { sum_by (λ g. length (gate_names N g)) gates.now ≤ W.room wires.old }
+    ensures shares { SameShares N (length values.old) (all_listed words (map (map W.carried) values.new))
+        (shares_of (run words N gates.now inputs (start words (all_listed words (map (map W.carried) values.old))) (ahead (sum_by (gate_draws N) gates.now) (W.drawn coins.old)))) }
+    ensures told { W.told wires.new ≡ told_more (W.told wires.old)
+        (wires_from words N gates.now inputs (start words (all_listed words (map (map W.carried) values.old))) (ahead (sum_by (gate_draws N) gates.now) (W.drawn coins.old))) }
+    ensures room { W.room wires.old ≤ W.room wires.new + sum_by (λ g. length (gate_names N g)) gates.now }
     ensures inputs { take inputs values.new ≡ take inputs values.old }
-    ensures spent { coins.new.used ≡ coins.old.used + sum_by (gate_draws N) gates.now }
-    ensures same { coins.new.words ≡ coins.old.words }
+    ensures spent { (W.drawn coins.new).used ≡ (W.drawn coins.old).used + sum_by (gate_draws N) gates.now }
+    ensures same { (W.drawn coins.new).words ≡ (W.drawn coins.old).words }
     ensures steps { steps.new ≡ steps.old + length gates.now }
 {
-    // Nobody looks at the wires here, so one buffer serves all gates.
-    let mut wires = Wires::new();
     for (k, gate) in gates.iter().enumerate() {
-        let shares = gate_shares(*gate, values, coins, &mut wires);
+        let shares = gate_on(*gate, values, coins, wires);
         values[inputs + k] = shares;
         steps.tick();
     }

@@ -11,6 +11,7 @@ mod words;
 
 pub use evaluation::eval;
 pub use frames::Frame;
+pub use gates::eval_on;
 pub use listing::{ListWatch, Seen};
 pub use sharing::share;
 pub use watching::{NoWatch, Watch};

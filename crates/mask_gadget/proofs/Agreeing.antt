@@ -3,7 +3,9 @@
 use Rattle.std.proofs.Common.{◌≡◌, ℕ, pred, ◌<◌, ◌≤◌, map, refl, ap, arith}
 use Rattle.mask_circuit.specs.Ring.{Ring}
 use Rattle.mask_circuit.specs.declared.gates.Gate.TheVariants.{Zero, And, Ref}
-use Rattle.mask_circuit.specs.Wires.{Wire, Share, Product, Fresh, Left, Right, Partial, Shares, row_sum, cross, product_wire, product_names, fresh_between, refresh_wire, refresh_names, share_names}
+use Rattle.mask_circuit.specs.declared.gates.Wire.{Wire}
+use Rattle.mask_circuit.specs.declared.gates.Wire.TheVariants.{Share, Product, Fresh, Left, Right, Partial}
+use Rattle.mask_circuit.specs.Wires.{Shares, row_sum, cross, product_wire, product_names, fresh_between, refresh_wire, refresh_names, share_names}
 use Rattle.mask_laws.specs.Names.{IsProductName, IsRefreshName, IsShareName}
 use Rattle.mask_laws.proofs.Names.{gate_names-by_shape}
 use Rattle.mask_laws.proofs.Operands.{map-same_in}

@@ -12,7 +12,9 @@ use Rattle.mask_circuit.specs.declared.gates.Gate.{Gate}
 use Rattle.mask_circuit.specs.declared.gates.Gate.TheVariants.{Zero, One, Xor, Not, And, Ref}
 use Rattle.mask_circuit.specs.Value.{xor}
 use Rattle.mask_circuit.specs.Ring.{Ring, bits, words}
-use Rattle.mask_circuit.specs.Wires.{Wire, Share, Product, Fresh, Left, Right, Partial, Pair, Shares, fresh_of, row_sum, cross, product_wire, fresh_between, refresh_wire, share_wire, on_first, gate_wire, gate_wires, gate_out, gate_names, share_names, pairs}
+use Rattle.mask_circuit.specs.declared.gates.Wire.{Wire}
+use Rattle.mask_circuit.specs.declared.gates.Wire.TheVariants.{Share, Product, Fresh, Left, Right, Partial}
+use Rattle.mask_circuit.specs.Wires.{Pair, Shares, fresh_of, row_sum, cross, product_wire, fresh_between, refresh_wire, share_wire, on_first, gate_wire, gate_wires, gate_out, gate_names, share_names, pairs}
 use Rattle.mask_shares.specs.Sharing.{listed, all_listed}
 
 -- a map of one ring to another that keeps nought, sums and products

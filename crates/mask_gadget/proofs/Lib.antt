@@ -1,9 +1,13 @@
 pub mod Agreeing
+pub mod Cells
 pub mod Lanes
 pub mod Made
+pub mod Mixing
 pub mod Pairs
 pub mod Products
 pub mod Refreshes
 pub mod Rows
+pub mod Sizes
+pub mod Telling
 pub mod Totals
 pub mod Unmasking

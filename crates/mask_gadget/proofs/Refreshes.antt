@@ -1,13 +1,44 @@
 -- A refresh, pair by pair: how far each share has come, and the wires.
-use Rattle.std.proofs.Common.{◌≡◌, ◌≢◌, ℕ, suc, pred, ◌+◌, ◌-◌, ◌<◌, ◌≤◌, inl, inr, List, [], ◌∷◌, length, map, get_or, set, bit_xor, refl, sym, ap, ◌∙◌, arith, add-one}
+use Rattle.std.proofs.Common.{◌≡◌, ◌≢◌, ℕ, suc, pred, ◌+◌, ◌-◌, ◌*◌, ◌<◌, ◌≤◌, inl, inr, List, [], ◌∷◌, length, map, get_or, set, bit_xor, refl, sym, ap, ap₂, ◌∙◌, arith, add-one}
 use Rattle.std.proofs.lemmas.Bool.{lt-ltb, le-ltb}
-use Rattle.std.proofs.lemmas.List.{get_or-set_same, get_or-set_other, length-set}
+use Rattle.std.proofs.lemmas.List.{get_or-set_same, get_or-set_other, length-set, map-set}
 use Rattle.mask_circuit.specs.Ring.{words}
-use Rattle.mask_circuit.specs.Wires.{Wire, Share, Fresh, Shares, row_wire, fresh_between, refresh_wire, joined, refresh_names}
-use Rattle.mask_circuit.proofs.Places.{below_cases}
+use Rattle.mask_circuit.specs.declared.gates.Wire.{Wire}
+use Rattle.mask_circuit.specs.declared.gates.Wire.TheVariants.{Share, Fresh}
+use Rattle.mask_circuit.specs.Wires.{Shares, row_wire, fresh_between, refresh_wire, Pair, pairs, joined, refresh_names}
+use Rattle.mask_circuit.proofs.Places.{below_cases, length-threes}
 use Rattle.mask_gadget.proofs.Pairs.{by_rows}
+use Rattle.mask_gadget.proofs.Telling.{word_read}
 use Rattle.mask_gadget.specs.Gadgets.{RowsDone, refreshed, update_names, update_row}
 use Rattle.mask_gadget.proofs.Rows.{row_before-own, row_before-more, row_wire-sum}
+
+-- two shares of an array with a coin, where x and y are the words that are put there
+module _ {A : Type 0} (carried : A → ℕ) (n : ℕ) (parts : List A) where
+  pub first_updated : (i : ℕ) (x : A) (coin : ℕ) (d : A) → length parts ≡ n → i < n → carried x ≡ bit_xor (carried (get_or parts i d)) coin →
+      carried x ≡ bit_xor (get_or (map carried parts) i 0) coin
+  first_updated i x coin d count lt is =
+      let within : i < length parts = rw count lt in
+      is ∙ ap (λ (w : ℕ). bit_xor w coin) (word_read carried parts i d within)
+
+  pub second_updated : (i j : ℕ) (x y : A) (coin : ℕ) (d : A) → length parts ≡ n → i < j → j < n →
+      carried y ≡ bit_xor (carried (get_or (set parts i x) j d)) coin → carried y ≡ bit_xor (get_or (map carried parts) j 0) coin
+  second_updated i j x y coin d count low high is =
+      let within : j < length (set parts i x) = rw (length-set parts i x, count) high in
+      is
+      ∙ ap (λ (w : ℕ). bit_xor w coin)
+      (word_read carried (set parts i x) j d within
+      ∙ ap (λ (ws : List ℕ). get_or ws j 0) (map-set carried parts i x)
+      ∙ get_or-set_other (map carried parts) i j (carried x) 0 (λ e. omega arith))
+
+  pub both_updated : (i j : ℕ) (x y : A) (coin : ℕ) (d d' : A) → length parts ≡ n → i < j → j < n →
+      carried x ≡ bit_xor (carried (get_or parts i d)) coin → carried y ≡ bit_xor (carried (get_or (set parts i x) j d')) coin →
+      map carried (set (set parts i x) j y)
+      ≡ set (set (map carried parts) i (bit_xor (get_or (map carried parts) i 0) coin)) j (bit_xor (get_or (map carried parts) j 0) coin)
+  both_updated i j x y coin d d' count low high first second =
+      map-set carried (set parts i x) j y
+      ∙ ap₂ (λ (ws : List ℕ) (w : ℕ). set ws j w)
+      (map-set carried parts i x ∙ ap (set (map carried parts) i) (first_updated i x coin d count (omega arith) first))
+      (second_updated i j x y coin d' count low high second)
 
 module _ (n : ℕ) (a : Shares ℕ) (r : ℕ → ℕ → ℕ) where
   -- beside the rows before i, the pairs of i and the shares below j were taken
@@ -93,3 +124,7 @@ module _ (n : ℕ) (a : Shares ℕ) (r : ℕ → ℕ → ℕ) where
 pub all_updates : (n : ℕ) (W : Wire → ℕ) (items : List ℕ) (i : ℕ) → i ≡ n →
     items ≡ map W (joined (λ k. update_row n k (n - suc k)) i) → items ≡ map W (refresh_names n)
 all_updates n W items i e items_are = items_are ∙ rw (e, ← by_rows (update_names n) n) refl
+
+-- how many wires there are: three for each pair
+pub refresh_count : (n : ℕ) → length (refresh_names n) ≡ 3 * length (pairs n)
+refresh_count n = length-threes (λ (p : Pair). update_names n p.0 p.1) (pairs n) (λ q. refl)

@@ -2,7 +2,9 @@
 use Rattle.std.proofs.Common.{◌≡◌, ◌≢◌, ℕ, zero, suc, pred, ◌-◌, ◌<◌, ◌≤◌, inl, inr, Bool, true, false, cond, ◌==◌, refl, sym, ap, ◌∙◌, arith, eq-eqb, ne_eqb, eqb-true}
 use Rattle.std.proofs.lemmas.Bool.{cases_lt, and_parts, lt-ltb, le-ltb, eqb-false}
 use Rattle.mask_circuit.specs.Ring.{Ring}
-use Rattle.mask_circuit.specs.Wires.{Wire, Share, Partial, other, is_last, row_wire, row_sum}
+use Rattle.mask_circuit.specs.declared.gates.Wire.{Wire}
+use Rattle.mask_circuit.specs.declared.gates.Wire.TheVariants.{Share, Partial}
+use Rattle.mask_circuit.specs.Wires.{other, is_last, row_wire, row_sum}
 use Rattle.mask_gadget.specs.Gadgets.{row_before}
 
 -- column i adds nothing ..

@@ -4,7 +4,8 @@ use Rattle.std.proofs.lemmas.List.{ext_get_or}
 use Rattle.mask_circuit.specs.declared.gates.Gate.TheVariants.{Xor, Not, And, Ref}
 use Rattle.mask_circuit.specs.Value.{xor}
 use Rattle.mask_circuit.specs.Ring.{bits}
-use Rattle.mask_circuit.specs.Wires.{Share, each, gate_out, pairs, fresh_of}
+use Rattle.mask_circuit.specs.declared.gates.Wire.TheVariants.{Share}
+use Rattle.mask_circuit.specs.Wires.{each, gate_out, pairs, fresh_of}
 use Rattle.mask_circuit.proofs.Places.{length-each}
 use Rattle.mask_shares.specs.Sharing.{listed, all_listed, unmasked}
 use Rattle.mask_shares.proofs.Lists.{get_or-each}

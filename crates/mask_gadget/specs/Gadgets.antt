@@ -1,8 +1,10 @@
 -- The coins of a gadget; and, for the steps of its body, the parts of its wires and how far it has come.
-use Rattle.std.specs.Prelude.{◌≡◌, ℕ, zero, suc, ◌+◌, ◌*◌, ◌<◌, ◌≤◌, cond, nat_lt, List, [], ◌∷◌, length, slice_index}
+use Rattle.std.specs.Prelude.{◌≡◌, ◌⊎◌, ℕ, zero, suc, pred, ◌+◌, ◌<◌, ◌≤◌, List, [], ◌∷◌, length, slice_index, bit_and}
 use Rattle.mask_circuit.specs.Ring.{Ring, words}
-use Rattle.mask_circuit.specs.Wires.{Wire, Fresh, Left, Right, Shares, joined, pairs, row_wire, row_sum, fresh_of, fresh_between}
-use Rattle.mask_laws.specs.Names.{pairs_before, pair_number}
+use Rattle.mask_circuit.specs.declared.gates.Wire.{Wire}
+use Rattle.mask_circuit.specs.declared.gates.Wire.TheVariants.{Fresh, Left, Right}
+use Rattle.mask_circuit.specs.Wires.{Shares, each, joined, pairs, other, row_wire, row_sum, cross, fresh_of, fresh_between}
+use Rattle.mask_laws.specs.Names.{pairs_before}
 use Rattle.mask_tape.specs.Drawn.{Drawn, ahead}
 
 -- the next coins, one for each pair of n shares, and the coin of the pair (i, j)
@@ -24,9 +26,22 @@ pair_names i j = Fresh i j ∷ Left i j ∷ Right i j ∷ []
 abbrev pub pair_row : ℕ → ℕ → List Wire
 pair_row i c = joined (λ m. pair_names i (suc i + m)) c
 
--- where r_ik stands among the wires of a product on n shares: as the fresh bit of its pair, or as the last wire of it
-abbrev pub cross_place : ℕ → ℕ → ℕ → ℕ
-cross_place n i k = cond (nat_lt i k) (n * n + 3 * pair_number n i k) (n * n + 3 * pair_number n k i + 2)
+-- the partial sums of row i
+abbrev pub row_names : ℕ → ℕ → List Wire
+row_names n i = each (λ m. row_wire n i (other i m)) (pred n)
+
+-- the pair (k, l) stands before the pair (i, j)
+abbrev pub Before : ℕ → ℕ → ℕ → ℕ → Type 0
+Before k l i j = (k < i) ⊎ ((k ≡ i) × (l < j))
+
+-- Of the terms of a product of a and b, those of the pairs before (i, j) are mixed: above the diagonal stands the fresh bit
+-- of the pair, and below it the last wire of the pair. The other terms are products.
+pub record Mixed (n : ℕ) (a b : Shares ℕ) (r : ℕ → ℕ → ℕ) (i j : ℕ) (term : ℕ → ℕ → ℕ) : Type 0 where
+  pub own : (k : ℕ) → k < n → term k k ≡ bit_and (a k) (b k)
+  pub upper : (k l : ℕ) → k < l → l < n → Before k l i j → term k l ≡ cross words a b r k l
+  pub lower : (k l : ℕ) → k < l → l < n → Before k l i j → term l k ≡ cross words a b r l k
+  pub upper_left : (k l : ℕ) → k < l → l < n → (Before k l i j → ⊥) → term k l ≡ bit_and (a k) (b l)
+  pub lower_left : (k l : ℕ) → k < l → l < n → (Before k l i j → ⊥) → term l k ≡ bit_and (a l) (b k)
 
 -- likewise the three names of a pair in a refresh, and those of a row of pairs
 abbrev pub update_names : ℕ → ℕ → ℕ → List Wire

@@ -1,1 +1,2 @@
 pub mod Gadgets
+pub mod Wiring

@@ -1,38 +1,48 @@
-//! The gates that act share by share. Their wires are their output shares.
+//! Any gate on the shares of the values before it.
 
-ghost use Rattle.std.specs.Prelude.{◌≡◌, ℕ, ◌<◌, ◌≤◌, [], ◌∷◌, not};
-ghost use Rattle.mask_bits.specs.Lanes.{lane};
-ghost use Rattle.mask_circuit.specs.declared.gates.Gate.TheVariants.{Xor, Not};
-ghost use Rattle.mask_circuit.specs.Value.{xor};
-ghost use Rattle.mask_circuit.specs.Ring.{bits, words};
-ghost use Rattle.mask_circuit.specs.Wires.{gate_out};
-ghost use Rattle.mask_shares.specs.Sharing.{all_listed, unmasked};
+ghost use Rattle.std.specs.Prelude.{◌≡◌, ◌+◌, ◌<◌, ◌≤◌, length, map};
+ghost use Rattle.mask_circuit.specs.Netlist.{OperandsBelow};
+ghost use Rattle.mask_circuit.specs.Ring.{words};
+ghost use Rattle.mask_circuit.specs.Wires.{gate_names, gate_draws, gate_out, gate_wires};
+ghost use Rattle.mask_shares.specs.Sharing.{all_listed};
+ghost use Rattle.mask_tape.specs.Drawn.{ahead, left};
+ghost use Rattle.mask_gadget.specs.Wiring.{told_more};
 
-use mask_shares::Shares;
+use crate::linear::{constant, not, xor};
+use crate::product::product;
+use crate::refresh::refresh;
+use crate::wiring::Wiring;
+use mask_circuit::Gate;
 
-/// The sum of two values.
-pub fn xor_gadget<const N: usize>(x: Shares<N>, y: Shares<N>) -> Shares<N>
-    requires { N ≤ 8 }
-    ensures words { result ≡ gate_out words N (Xor 0 1) (all_listed words (x.entry ∷ y.entry ∷ [])) [] }
-    ensures shares { (l : ℕ) → lane l result
-        ≡ gate_out bits N (Xor 0 1) (all_listed bits (lane l x.entry ∷ lane l y.entry ∷ [])) [] }
-    ensures bit { (l : ℕ) → unmasked bits (lane l result)
-        ≡ xor (unmasked bits (lane l x.entry)) (unmasked bits (lane l y.entry)) }
-{
-    prove!(x.count() == N);
-    prove!(y.count() == N);
-    x.xor(y)
-}
-
-/// The complement of a value.
-pub fn not_gadget<const N: usize>(x: Shares<N>) -> Shares<N>
-    requires some { 0 < N }
+/// The output shares of a gate on the shares of the values before it, computed on this machine.
+///
+/// What the machine is told are the wires of the gate, in the order of their numbers. A product and a refresh draw a coin
+/// for each pair of shares.
+pub fn gate_on<const N: usize, W: Wiring>(
+    gate: Gate,
+    values: &[[W::Word; N]],
+    coins: &mut W::Coins,
+    wires: &mut W,
+) -> [W::Word; N]
+    requires some { 2 ≤ N }
     requires few { N ≤ 8 }
-    ensures words { result ≡ gate_out words N (Not 0) (all_listed words (x.entry ∷ [])) [] }
-    ensures shares { (l : ℕ) → l < 64 → lane l result
-        ≡ gate_out bits N (Not 0) (all_listed bits (lane l x.entry ∷ [])) [] }
-    ensures bit { (l : ℕ) → l < 64 → unmasked bits (lane l result) ≡ not (unmasked bits (lane l x.entry)) }
+    requires operands { OperandsBelow (length values.now) gate }
+    requires coins { gate_draws N gate ≤ left (W.drawn coins.old) }
+    requires room { length (gate_names N gate) ≤ W.room wires.old }
+    ensures shares { map W.carried result
+        ≡ gate_out words N gate (all_listed words (map (map W.carried) values.now)) (ahead (gate_draws N gate) (W.drawn coins.old)) }
+    ensures told { W.told wires.new ≡ told_more (W.told wires.old)
+        (gate_wires words N gate (all_listed words (map (map W.carried) values.now)) (ahead (gate_draws N gate) (W.drawn coins.old))) }
+    ensures room { W.room wires.old ≤ W.room wires.new + length (gate_names N gate) }
+    ensures spent { (W.drawn coins.new).used ≡ (W.drawn coins.old).used + gate_draws N gate }
+    ensures same { (W.drawn coins.new).words ≡ (W.drawn coins.old).words }
 {
-    prove!(x.count() == N);
-    x.not()
+    match gate {
+        Gate::Zero => constant(0, wires),
+        Gate::One => constant(u64::MAX, wires),
+        Gate::Xor(u, v) => xor(&values[u as usize], &values[v as usize], wires),
+        Gate::Not(u) => not(&values[u as usize], wires),
+        Gate::And(u, v) => product(&values[u as usize], &values[v as usize], coins, wires),
+        Gate::Ref(u) => refresh(&values[u as usize], coins, wires),
+    }
 }

@@ -7,13 +7,18 @@
 
 use arrayvec::ArrayVec;
 
+mod gadgets;
 mod gates;
+mod linear;
+mod machines;
 mod product;
 mod refresh;
+mod wiring;
 
-pub use gates::{not_gadget, xor_gadget};
-pub use product::and_gadget;
-pub use refresh::ref_gadget;
+pub use gadgets::{and_gadget, not_gadget, ref_gadget, xor_gadget};
+pub use gates::gate_on;
+pub use machines::Unheard;
+pub use wiring::Wiring;
 
 /// The wires of one gate, by local number. A product of 8 shares has 204.
 pub type Wires = ArrayVec<u64, 204>;

@@ -1,184 +1,181 @@
 //! The product of two values: the gadget of Ishai, Sahai and Wagner (2003).
 
-ghost use Rattle.std.specs.Prelude.{◌≡◌, ℕ, suc, ◌+◌, ◌-◌, ◌*◌, ◌<◌, ◌≤◌, ◌≢◌, [], ◌∷◌, ◌++◌, ◌&&◌, length, map, slice_index, bit_and};
-ghost use Rattle.mask_bits.specs.Lanes.{lane};
+ghost use Rattle.std.specs.Prelude.{◌≡◌, ℕ, suc, ◌+◌, ◌-◌, ◌*◌, ◌<◌, ◌≤◌, [], ◌∷◌, length, map, slice_index, bit_and};
 ghost use Rattle.mask_circuit.specs.declared.gates.Gate.TheVariants.{And};
-ghost use Rattle.mask_circuit.specs.Ring.{bits, words};
-ghost use Rattle.mask_circuit.specs.Wires.{each, joined, pairs, other, row_sum, product_wire, gate_out, gate_wires};
-ghost use Rattle.mask_laws.specs.Names.{pair_number, pair_count};
-ghost use Rattle.mask_shares.specs.Sharing.{listed, all_listed, unmasked};
+ghost use Rattle.mask_circuit.specs.Ring.{words};
+ghost use Rattle.mask_circuit.specs.declared.gates.Wire.TheVariants.{Share};
+ghost use Rattle.mask_circuit.specs.Wires.{Shares, each, joined, pairs, other, row_sum, product_wire, product_names, gate_out, gate_wires};
+ghost use Rattle.mask_shares.specs.Sharing.{all_listed};
 ghost use Rattle.mask_tape.specs.Drawn.{Drawn, left};
-ghost use Rattle.mask_gadget.specs.Gadgets.{IsAtRow, coins_of, pair_coin, pair_row, cross_place};
+ghost use Rattle.mask_gadget.specs.Wiring.{told_more, cell, IsSquare};
+ghost use Rattle.mask_gadget.specs.Gadgets.{IsAtRow, Mixed, coins_of, pair_coin, pair_row, row_names};
 
-use crate::Wires;
-use mask_shares::Shares;
-use mask_tape::Coins;
+use crate::wiring::Wiring;
+use mask_circuit::other;
 
-/// The product of two values, and its wires.
+/// The product of two values.
 ///
 /// With one coin `r_ij` for each pair `i < j`, and `r_ji = (r_ij + a_i · b_j) + a_j · b_i`, output share i is the sum of
 /// `a_i · b_i` and all `r_ij`. The wires are all `a_i · b_j`, then `r_ij`, `r_ij + a_i · b_j` and `r_ji` for each pair,
-/// then the partial sums of each row. What `wires` held before is dropped.
-pub fn and_gadget<const N: usize>(
-    x: Shares<N>,
-    y: Shares<N>,
-    coins: &mut Coins,
-    wires: &mut Wires,
-) -> Shares<N>
+/// then the partial sums of each row. They are computed in this order.
+pub(crate) fn product<const N: usize, W: Wiring>(
+    x: &[W::Word; N],
+    y: &[W::Word; N],
+    coins: &mut W::Coins,
+    wires: &mut W,
+) -> [W::Word; N]
     requires some { 2 ≤ N }
     requires few { N ≤ 8 }
-    requires coins { length (pairs N) ≤ left coins.old }
-    ensures words { result
-        ≡ gate_out words N (And 0 1) (all_listed words (x.entry ∷ y.entry ∷ [])) (coins_of N coins.old) }
-    ensures word_wires { wires.new.items
-        ≡ gate_wires words N (And 0 1) (all_listed words (x.entry ∷ y.entry ∷ [])) (coins_of N coins.old) }
-    ensures shares { (l : ℕ) → lane l result
-        ≡ gate_out bits N (And 0 1) (all_listed bits (lane l x.entry ∷ lane l y.entry ∷ [])) (lane l (coins_of N coins.old)) }
-    ensures wires { (l : ℕ) → lane l wires.new.items
-        ≡ gate_wires bits N (And 0 1) (all_listed bits (lane l x.entry ∷ lane l y.entry ∷ [])) (lane l (coins_of N coins.old)) }
-    ensures bit { (l : ℕ) → unmasked bits (lane l result)
-        ≡ (unmasked bits (lane l x.entry) && unmasked bits (lane l y.entry)) }
-    ensures spent { coins.new.used ≡ coins.old.used + length (pairs N) }
-    ensures same { coins.new.words ≡ coins.old.words }
+    requires coins { length (pairs N) ≤ left (W.drawn coins.old) }
+    requires room { length (product_names N) ≤ W.room wires.old }
+    ensures shares { map W.carried result
+        ≡ gate_out words N (And 0 1) (all_listed words (map W.carried x.now ∷ map W.carried y.now ∷ [])) (coins_of N (W.drawn coins.old)) }
+    ensures told { W.told wires.new ≡ told_more (W.told wires.old)
+        (gate_wires words N (And 0 1) (all_listed words (map W.carried x.now ∷ map W.carried y.now ∷ [])) (coins_of N (W.drawn coins.old))) }
+    ensures room { W.room wires.old ≤ W.room wires.new + length (product_names N) }
+    ensures spent { (W.drawn coins.new).used ≡ (W.drawn coins.old).used + length (pairs N) }
+    ensures same { (W.drawn coins.new).words ≡ (W.drawn coins.old).words }
 {
-    wires.clear();
-    push_products(&x, &y, wires);
-    push_pairs(&x, &y, coins, wires);
-    let mut parts = [0; N];
-    for i in 0..N {
-        parts[i] = push_row_of_sums::<N>(i, wires);
-    }
-    Shares::from_parts(parts)
+    let mut terms = products(x, y, wires);
+    mix(&mut terms, coins, wires);
+    sum_rows(&terms, wires)
 }
 
-// Appends all a_i · b_j, row by row.
-fn push_products<const N: usize>(x: &Shares<N>, y: &Shares<N>, wires: &mut Wires)
+// All a_i · b_j, row by row.
+fn products<const N: usize, W: Wiring>(
+    x: &[W::Word; N],
+    y: &[W::Word; N],
+    wires: &mut W,
+) -> [[W::Word; N]; N]
     requires few { N ≤ 8 }
-    requires empty { wires.old.items ≡ [] }
-    ensures items { wires.new.items
-        ≡ joined (λ i. each (λ j. bit_and (slice_index x.now i) (slice_index y.now j)) N) N }
-    ensures count { length wires.new.items ≡ N * N }
-    ensures operands { (length x.now ≡ N) × (length y.now ≡ N) }
+    requires room { N * N ≤ W.room wires.old }
+    ensures square { IsSquare N result }
+    ensures cells { (i j : ℕ) → i < N → j < N → cell W.carried result i j
+        ≡ bit_and (slice_index (map W.carried x.now) i) (slice_index (map W.carried y.now) j) }
+    ensures told { W.told wires.new ≡ told_more (W.told wires.old)
+        (joined (λ i. each (λ j. bit_and (slice_index (map W.carried x.now) i) (slice_index (map W.carried y.now) j)) N) N) }
+    ensures room { W.room wires.old ≤ W.room wires.new + N * N }
 {
-    prove!(x.count() == N);
-    prove!(y.count() == N);
+    let mut terms = [*y; N];
     for i in 0..N {
-        push_row_of_products(i, x, y, wires);
+        terms[i] = row_of_products(x[i], y, wires);
     }
+    terms
 }
 
-// Appends a_i · b_j for each j.
-fn push_row_of_products<const N: usize>(i: usize, x: &Shares<N>, y: &Shares<N>, wires: &mut Wires)
+// a · b_j for each j.
+fn row_of_products<const N: usize, W: Wiring>(
+    share: W::Word,
+    y: &[W::Word; N],
+    wires: &mut W,
+) -> [W::Word; N]
     requires few { N ≤ 8 }
-    requires row { i < N }
-    requires room { length wires.old.items ≡ i * N }
-    ensures items { wires.new.items
-        ≡ wires.old.items ++ each (λ j. bit_and (slice_index x.now i) (slice_index y.now j)) N }
-    ensures count { length wires.new.items ≡ length wires.old.items + N }
+    requires room { N ≤ W.room wires.old }
+    ensures row { map W.carried result ≡ each (λ j. bit_and (W.carried share) (slice_index (map W.carried y.now) j)) N }
+    ensures told { W.told wires.new ≡ told_more (W.told wires.old)
+        (each (λ j. bit_and (W.carried share) (slice_index (map W.carried y.now) j)) N) }
+    ensures room { W.room wires.old ≤ W.room wires.new + N }
 {
+    let mut row = *y;
     for j in 0..N {
-        wires.push(x.share(i) & y.share(j));
+        row[j] = wires.and(share, y[j]);
     }
+    row
 }
 
-// Appends for each pair its coin, the coin with the first mixed term, and then with the second one too.
-fn push_pairs<const N: usize>(x: &Shares<N>, y: &Shares<N>, coins: &mut Coins, wires: &mut Wires)
+// Puts r_ij in the place of a_i · b_j and r_ji in that of a_j · b_i, for each pair.
+fn mix<const N: usize, W: Wiring>(
+    terms: &mut [[W::Word; N]; N],
+    coins: &mut W::Coins,
+    wires: &mut W,
+)
     requires few { N ≤ 8 }
-    requires coins { length (pairs N) ≤ left coins.old }
-    requires room { length wires.old.items ≤ N * N }
-    ensures items { wires.new.items ≡ wires.old.items
-        ++ map (product_wire words N (listed words x.now) (listed words y.now) (pair_coin N coins.old))
-        (joined (λ i. pair_row i (N - suc i)) N) }
-    ensures count { length wires.new.items ≡ length wires.old.items + 3 * length (pairs N) }
-    ensures spent { coins.new.used ≡ coins.old.used + length (pairs N) }
-    ensures same { coins.new.words ≡ coins.old.words }
+    requires coins { length (pairs N) ≤ left (W.drawn coins.old) }
+    requires room { 3 * length (pairs N) ≤ W.room wires.old }
+    requires square { IsSquare N terms.old }
+    ensures square { IsSquare N terms.new }
+    ensures cells { (a b : Shares ℕ) → Mixed N a b (pair_coin N (W.drawn coins.old)) 0 1 (cell W.carried terms.old) →
+        Mixed N a b (pair_coin N (W.drawn coins.old)) N (suc N) (cell W.carried terms.new) }
+    ensures told { (a b : Shares ℕ) → Mixed N a b (pair_coin N (W.drawn coins.old)) 0 1 (cell W.carried terms.old) →
+        W.told wires.new ≡ told_more (W.told wires.old)
+        (map (product_wire words N a b (pair_coin N (W.drawn coins.old))) (joined (λ i. pair_row i (N - suc i)) N)) }
+    ensures room { W.room wires.old ≤ W.room wires.new + 3 * length (pairs N) }
+    ensures spent { (W.drawn coins.new).used ≡ (W.drawn coins.old).used + length (pairs N) }
+    ensures same { (W.drawn coins.new).words ≡ (W.drawn coins.old).words }
 {
     for i in 0..N {
-        push_row_of_pairs(i, x, y, coins, wires);
+        mix_row(terms, i, coins, wires);
     }
 }
 
-// Appends these for the pairs of share `i` with each later share.
-fn push_row_of_pairs<const N: usize>(
+// Does so for the pairs of share `i` with each later share.
+fn mix_row<const N: usize, W: Wiring>(
+    terms: &mut [[W::Word; N]; N],
     i: usize,
-    x: &Shares<N>,
-    y: &Shares<N>,
-    coins: &mut Coins,
-    wires: &mut Wires,
+    coins: &mut W::Coins,
+    wires: &mut W,
 )
     requires few { N ≤ 8 }
     requires row { i < N }
-    requires coins { N - suc i ≤ left coins.old }
-    requires room { length wires.old.items + 3 * (N - suc i) ≤ 204 }
-    ensures items { (first : Drawn) → IsAtRow N i first coins.old → wires.new.items ≡ wires.old.items
-        ++ map (product_wire words N (listed words x.now) (listed words y.now) (pair_coin N first)) (pair_row i (N - suc i)) }
-    ensures count { length wires.new.items ≡ length wires.old.items + 3 * (N - suc i) }
-    ensures spent { coins.new.used ≡ coins.old.used + (N - suc i) }
-    ensures same { coins.new.words ≡ coins.old.words }
+    requires coins { N - suc i ≤ left (W.drawn coins.old) }
+    requires room { 3 * (N - suc i) ≤ W.room wires.old }
+    requires square { IsSquare N terms.old }
+    ensures square { IsSquare N terms.new }
+    ensures cells { (a b : Shares ℕ) (first : Drawn) → IsAtRow N i first (W.drawn coins.old) →
+        Mixed N a b (pair_coin N first) i (suc i) (cell W.carried terms.old) →
+        Mixed N a b (pair_coin N first) (suc i) (suc (suc i)) (cell W.carried terms.new) }
+    ensures told { (a b : Shares ℕ) (first : Drawn) → IsAtRow N i first (W.drawn coins.old) →
+        Mixed N a b (pair_coin N first) i (suc i) (cell W.carried terms.old) →
+        W.told wires.new ≡ told_more (W.told wires.old)
+        (map (product_wire words N a b (pair_coin N first)) (pair_row i (N - suc i))) }
+    ensures room { W.room wires.old ≤ W.room wires.new + 3 * (N - suc i) }
+    ensures spent { (W.drawn coins.new).used ≡ (W.drawn coins.old).used + (N - suc i) }
+    ensures same { (W.drawn coins.new).words ≡ (W.drawn coins.old).words }
 {
     for j in i + 1..N {
-        let fresh = coins.next();
         // The coin hides the first term before the second is added.
-        let left = fresh ^ (x.share(i) & y.share(j));
-        wires.push(fresh);
-        wires.push(left);
-        wires.push(left ^ (x.share(j) & y.share(i)));
+        let fresh = wires.fresh(coins);
+        let left = wires.xor(fresh, terms[i][j]);
+        let right = wires.xor(left, terms[j][i]);
+        terms[i][j] = fresh;
+        terms[j][i] = right;
     }
 }
 
-// Appends the partial sums of row `i`, and returns the last.
-fn push_row_of_sums<const N: usize>(i: usize, wires: &mut Wires) -> u64
+// The sum of each row, which begins with its own term.
+fn sum_rows<const N: usize, W: Wiring>(terms: &[[W::Word; N]; N], wires: &mut W) -> [W::Word; N]
+    requires some { 2 ≤ N }
+    requires few { N ≤ 8 }
+    requires room { N * (N - 1) ≤ W.room wires.old }
+    requires square { IsSquare N terms.now }
+    ensures shares { (a b : Shares ℕ) (r : ℕ → ℕ → ℕ) → Mixed N a b r N (suc N) (cell W.carried terms.now) →
+        map W.carried result ≡ each (λ i. product_wire words N a b r (Share i)) N }
+    ensures told { (a b : Shares ℕ) (r : ℕ → ℕ → ℕ) → Mixed N a b r N (suc N) (cell W.carried terms.now) →
+        W.told wires.new ≡ told_more (W.told wires.old) (map (product_wire words N a b r) (joined (row_names N) N)) }
+    ensures room { W.room wires.old ≤ W.room wires.new + N * (N - 1) }
+{
+    let mut sums = terms[0];
+    for i in 0..N {
+        sums[i] = sum_row(&terms[i], i, wires);
+    }
+    sums
+}
+
+// The sum of row `i`: its own term, and then the others one after another.
+fn sum_row<const N: usize, W: Wiring>(row: &[W::Word; N], i: usize, wires: &mut W) -> W::Word
     requires some { 2 ≤ N }
     requires few { N ≤ 8 }
     requires row { i < N }
-    requires front { length wires.old.items ≡ N * N + 3 * pair_count N + i * (N - 1) }
-    ensures items { wires.new.items ≡ wires.old.items
-        ++ each (λ m. row_sum words (slice_index wires.old.items (i * N + i))
-        (λ k. slice_index wires.old.items (cross_place N i k)) i (other i m)) (N - 1) }
-    ensures count { length wires.new.items ≡ length wires.old.items + (N - 1) }
-    ensures sum { result ≡ row_sum words (slice_index wires.old.items (i * N + i))
-        (λ k. slice_index wires.old.items (cross_place N i k)) i (N - 1) }
+    requires room { N - 1 ≤ W.room wires.old }
+    ensures sum { W.carried result
+        ≡ row_sum words (slice_index (map W.carried row.now) i) (slice_index (map W.carried row.now)) i (N - 1) }
+    ensures told { W.told wires.new ≡ told_more (W.told wires.old)
+        (each (λ m. row_sum words (slice_index (map W.carried row.now) i) (slice_index (map W.carried row.now)) i (other i m)) (N - 1)) }
+    ensures room { W.room wires.old ≤ W.room wires.new + (N - 1) }
 {
-    let mut sum = wires[i * N + i];
+    let mut sum = row[i];
     for m in 0..N - 1 {
-        sum ^= wires[cross_place::<N>(i, other(i, m))];
-        wires.push(sum);
+        sum = wires.xor(sum, row[other(i, m)]);
     }
     sum
-}
-
-// The share that comes m-th among all but share `i`, from 0.
-fn other(i: usize, m: usize) -> usize
-    requires { m < usize.MAX }
-    ensures { result ≡ other i m }
-{
-    if m < i { m } else { m + 1 }
-}
-
-// Where r_ik stands among the wires: as the coin of its pair, or as the last wire of it.
-#[tactic(auto, using(mask_laws::proofs::PairNumbers::small))]
-fn cross_place<const N: usize>(i: usize, k: usize) -> usize
-    requires few { N ≤ 8 }
-    requires row { i < N }
-    requires column { k < N }
-    requires apart { i ≢ k }
-    ensures value { result ≡ cross_place N i k }
-    ensures bound { result < N * N + 3 * pair_count N }
-{
-    if i < k {
-        N * N + 3 * pair_number::<N>(i, k)
-    } else {
-        N * N + 3 * pair_number::<N>(k, i) + 2
-    }
-}
-
-// The number of the pair of shares i and j, where the pairs stand row by row.
-fn pair_number<const N: usize>(i: usize, j: usize) -> usize
-    requires few { N ≤ 8 }
-    requires order { i < j }
-    requires bound { j < N }
-    ensures value { result ≡ pair_number N i j }
-    ensures bound { result < pair_count N }
-{
-    i * (2 * N - i - 1) / 2 + (j - i - 1)
 }

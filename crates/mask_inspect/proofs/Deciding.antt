@@ -7,7 +7,7 @@ use Rattle.mask_circuit.specs.Netlist.{Netlist}
 use Rattle.mask_circuit.specs.Labels.{LabelledNetlist}
 use Rattle.mask_circuit.specs.Expansion.{wire_count}
 use Rattle.mask_circuit.specs.Acceptance.{IsAccepted, IsClash}
-use Rattle.mask_laws.specs.Circuits.{ArePlaces}
+use Rattle.mask_laws.specs.Circuits.{AreWireNumbers}
 use Rattle.mask_laws.specs.Clashes.{ClashIsUnique, ClashRefutes}
 use Rattle.mask_text.specs.Text.{IsText, IsTextOf}
 use Rattle.mask_text.specs.Faults.{Fault, fault, fault_at}
@@ -21,7 +21,7 @@ use Rattle.mask_inspect.specs.Checks.{Check, Grammar, Inputs, Acceptance, Probes
 -- THE PLACE OF A BAD PROBE
 
 -- a place that fails stands no earlier than one up to which all pass
-not_before : (c : Netlist) (N : ℕ) (W : List ℕ) (k l : ℕ) → ArePlaces c N (take l W) → l < length W → wire_count c N ≤ slice_index W k → k < l → ⊥
+not_before : (c : Netlist) (N : ℕ) (W : List ℕ) (k l : ℕ) → AreWireNumbers c N (take l W) → l < length W → wire_count c N ≤ slice_index W k → k < l → ⊥
 not_before c N W k l pass within fail lt =
     let count : length (take l W) ≡ l = length-take-le l W (omega arith) in
     let good = pass k 0 (omega arith) in

@@ -5,7 +5,7 @@ use Rattle.mask_bits.specs.Reading.{low}
 use Rattle.mask_circuit.specs.Netlist.{Netlist}
 use Rattle.mask_circuit.specs.Expansion.{wire_count}
 use Rattle.mask_circuit.specs.Acceptance.{IsAccepted, IsClash}
-use Rattle.mask_laws.specs.Circuits.{ArePlaces}
+use Rattle.mask_laws.specs.Circuits.{AreWireNumbers}
 use Rattle.mask_text.specs.Text.{IsTextOf}
 use Rattle.mask_text.specs.Faults.{fault, fault_at}
 use Rattle.mask_text.specs.declared.errors.Reason.{Reason}
@@ -37,7 +37,7 @@ FitInputs bytes n = (length bytes ≡ (n + 7) / 8) × AllWithin (λ bit. bit ≡
 -- The first WIRE is word 5.
 abbrev pub IsBadProbe : Netlist → ℕ → List ℕ → ℕ → Type 0
 IsBadProbe c N wires place = ((N ≤ length wires) × (place ≡ N + 4))
-    ⊎ ((k : ℕ) × (length wires < N) × (k < length wires) × (wire_count c N ≤ slice_index wires k) × ArePlaces c N (take k wires) × (place ≡ k + 5))
+    ⊎ ((k : ℕ) × (length wires < N) × (k < length wires) × (wire_count c N ≤ slice_index wires k) × AreWireNumbers c N (take k wires) × (place ≡ k + 5))
 
 abbrev pub Passes : Check → List ℕ → Type 0
 Passes Grammar text = (c : Netlist) × IsTextOf text c

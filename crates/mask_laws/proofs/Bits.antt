@@ -1,5 +1,5 @@
 -- The sum of two bits, and what a test says.
-use Rattle.std.proofs.Common.{◌≡◌, Bool, true, false, ◌&&◌, refl, sym, ap, ◌∙◌}
+use Rattle.std.proofs.Common.{◌≡◌, Bool, true, false, ◌&&◌, ◌||◌, refl, sym, ap, ◌∙◌}
 use Rattle.mask_circuit.specs.Value.{xor}
 
 pub xor-false : (a : Bool) → xor a false ≡ a
@@ -55,6 +55,10 @@ xor_same true true e = refl
 xor_same true false e = cc
 xor_same false true e = cc
 xor_same false false e = refl
+
+pub or-false : (a : Bool) → (a || false) ≡ a
+or-false true = refl
+or-false false = refl
 
 pub and-true : (a : Bool) → (a && true) ≡ a
 and-true true = refl

@@ -4,8 +4,10 @@ use Rattle.std.proofs.lemmas.List.Elements.{All-nil, All-cons, All-append, All-m
 use Rattle.mask_circuit.specs.declared.gates.Gate.{Gate}
 use Rattle.mask_circuit.specs.declared.gates.Gate.TheVariants.{Zero, One, Xor, Not, And, Ref}
 use Rattle.mask_circuit.specs.Netlist.{Netlist}
-use Rattle.mask_circuit.specs.Wires.{Wire, Share, Product, Fresh, Left, Right, Partial, each, joined, gate_names}
-use Rattle.mask_circuit.specs.Expansion.{Place, names, names_from}
+use Rattle.mask_circuit.specs.declared.gates.Wire.{Wire}
+use Rattle.mask_circuit.specs.declared.gates.Wire.TheVariants.{Share, Product, Fresh, Left, Right, Partial}
+use Rattle.mask_circuit.specs.Wires.{each, joined, gate_names}
+use Rattle.mask_circuit.specs.Expansion.{CircuitWire, names, names_from}
 use Rattle.mask_laws.specs.Names.{IsGateName}
 use Rattle.mask_laws.proofs.Names.{gate_names-by_shape}
 use Rattle.mask_laws.proofs.Keeping.{AreNamed}
@@ -41,7 +43,7 @@ gate_names-below N g two = All-weaker (Contains (gate_names N g)) (IsShareBelow 
     (gate_names N g) (All-contains_itself (gate_names N g))
 
 -- the names of gates, the first of which makes value n: of values from n on, as many as there are gates, and shares below N
-abbrev pub IsNamedFrom : ℕ → ℕ → ℕ → Place → Type 0
+abbrev pub IsNamedFrom : ℕ → ℕ → ℕ → CircuitWire → Type 0
 IsNamedFrom N n end p = (n ≤ p.0) × (p.0 < end) × IsShareBelow N p.1
 
 pub names_from-within : (N n : ℕ) (gs : List Gate) → 2 ≤ N → All (IsNamedFrom N n (n + length gs)) (names_from N gs n)
@@ -57,14 +59,14 @@ names_from-within N n (g ∷ gs) two =
 names_from-cases : (N n : ℕ) (g : Gate) (gs : List Gate) (v : ℕ) (w : Wire) → Contains (names_from N (g ∷ gs) n) (v, w) →
     ((v ≡ n) × Contains (gate_names N g) w) ⊎ Contains (names_from N gs (suc n)) (v, w)
 names_from-cases N n g gs v w k = ⊎_elim
-    (λ h. inl (All-contains (λ (p : Place). (p.0 ≡ n) × Contains (gate_names N g) p.1) (map (λ w. (n, w)) (gate_names N g)) (v, w)
-    (All-map (λ (p : Place). (p.0 ≡ n) × Contains (gate_names N g) p.1) (λ w. (n, w)) (gate_names N g)
+    (λ h. inl (All-contains (λ (p : CircuitWire). (p.0 ≡ n) × Contains (gate_names N g) p.1) (map (λ w. (n, w)) (gate_names N g)) (v, w)
+    (All-map (λ (p : CircuitWire). (p.0 ≡ n) × Contains (gate_names N g) p.1) (λ w. (n, w)) (gate_names N g)
     (All-weaker (Contains (gate_names N g)) (λ w. (n ≡ n) × Contains (gate_names N g) w) (λ w c. (refl, c)) (gate_names N g) (All-contains_itself (gate_names N g)))) h))
     (λ h. inr h)
     (Contains-append_cases (map (λ w. (n, w)) (gate_names N g)) (names_from N gs (suc n)) (v, w) k)
 
 -- probes whose later ones are names of these gates are names at each gate
-AreNamed-from : (N : ℕ) (P : List Place) (gs : List Gate) (n : ℕ) → 2 ≤ N →
+AreNamed-from : (N : ℕ) (P : List CircuitWire) (gs : List Gate) (n : ℕ) → 2 ≤ N →
     ((v : ℕ) (w : Wire) → n ≤ v → Contains P (v, w) → Contains (names_from N gs n) (v, w)) → AreNamed N P gs n
 AreNamed-from N P [] n two h = tt
 AreNamed-from N P (g ∷ gs) n two h = (
@@ -76,7 +78,7 @@ AreNamed-from N P (g ∷ gs) n two h = (
 )
 
 -- the names of the inputs
-input_names : ℕ → ℕ → List Place
+input_names : ℕ → ℕ → List CircuitWire
 input_names N n = joined (λ v. each (λ i. (v, Share i)) N) n
 
 input_names-within : (N n : ℕ) → All (IsNamedFrom N 0 n) (input_names N n)
@@ -93,7 +95,7 @@ names-within c N two = All-append (IsNamedFrom N 0 (c.inputs + length c.gates)) 
     (names_from-within N c.inputs c.gates two))
 
 -- names of the circuit are names at each gate
-pub AreNamed-from_names : (c : Netlist) (N : ℕ) (P : List Place) → 2 ≤ N → All (Contains (names c N)) P → AreNamed N P c.gates c.inputs
+pub AreNamed-from_names : (c : Netlist) (N : ℕ) (P : List CircuitWire) → 2 ≤ N → All (Contains (names c N)) P → AreNamed N P c.gates c.inputs
 unfolding input_names
 AreNamed-from_names c N P two all = AreNamed-from N P c.gates c.inputs two
     (λ v w m k. ⊎_elim

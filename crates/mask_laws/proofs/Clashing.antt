@@ -5,7 +5,7 @@ use Rattle.std.proofs.lemmas.Bool.{cases_lt, cases_order, and_parts, and_from, b
 use Rattle.std.proofs.lemmas.Option.{none-some, same_Some}
 use Rattle.mask_circuit.specs.declared.gates.Gate.{Gate}
 use Rattle.mask_circuit.specs.declared.gates.Gate.TheVariants.{Zero, One, Xor, Not, And, Ref}
-use Rattle.mask_circuit.specs.Netlist.{Netlist, IsCircuit, AreGates, OperandsBelow, value_count}
+use Rattle.mask_circuit.specs.Netlist.{Netlist, IsWellFormed, AreGates, OperandsBelow, value_count}
 use Rattle.mask_circuit.specs.Acceptance.{gate_at, Reaches, IsShared, IsAccepted, IsClash}
 use Rattle.mask_circuit.specs.Shift.{least}
 use Rattle.mask_laws.specs.Clashes.{Table, reach, shared_source, or_later, clash_from, clash, ClashIsUnique, ClashRefutes, ClashDecides}
@@ -128,7 +128,7 @@ clashes c (g ∷ gs) n R are table at end =
     clash_step c n _ _ (source_is c g n R are table at.0) (clashes c gs (suc n) R are table at.1 (omega arith))
 
 -- so is that of the whole circuit
-clash_found : (c : Netlist) → IsCircuit c → IsClashFrom c c.inputs (clash c)
+clash_found : (c : Netlist) → IsWellFormed c → IsClashFrom c c.inputs (clash c)
 unfolding clash
 clash_found c is = clashes c c.gates c.inputs (reach c) is.gates (table_is c is) (AreGatesAt-all c) refl
 

@@ -8,8 +8,9 @@ use Rattle.std.proofs.lemmas.Bool.{and_parts, and_right, or_cases, false≢true}
 use Rattle.mask_circuit.specs.declared.gates.Gate.{Gate}
 use Rattle.mask_circuit.specs.declared.gates.Gate.TheVariants.{Zero, One, Xor, Not, And, Ref}
 use Rattle.mask_circuit.specs.Netlist.{Netlist}
-use Rattle.mask_circuit.specs.Wires.{Wire, Share}
-use Rattle.mask_circuit.specs.Expansion.{Place}
+use Rattle.mask_circuit.specs.declared.gates.Wire.{Wire}
+use Rattle.mask_circuit.specs.declared.gates.Wire.TheVariants.{Share}
+use Rattle.mask_circuit.specs.Expansion.{CircuitWire}
 use Rattle.mask_circuit.specs.Probing.{same_wire}
 use Rattle.mask_circuit.specs.Need.{ShareSet, is_share, inner_probes, probed_shares, is_of_row, demands_left, demands_right, left_need, is_update_of, refresh_need}
 use Rattle.mask_circuit.specs.Acceptance.{gate_at, Reaches, FromLeft, FromRight, FromNegated, IsAccepted}
@@ -20,7 +21,7 @@ use Rattle.mask_laws.proofs.Demands.{right_part, demand_part, need_part}
 
 -- A relation of values and shares that holds of what the probes L demand at their own gates, and goes down through xor
 -- and not.
-pub record IsClosed (c : Netlist) (T : ℕ → ShareSet) (L : List Place) (M : ℕ → ℕ → Type 0) : Type 0 where
+pub record IsClosed (c : Netlist) (T : ℕ → ShareSet) (L : List CircuitWire) (M : ℕ → ℕ → Type 0) : Type 0 where
   pub probed : (v i : ℕ) → probed_shares L v i ≡ true → M v i
   pub left_of_xor : (m u w i : ℕ) → gate_at c m ≡ Some (Xor u w) → M m i → M u i
   pub right_of_xor : (m u w i : ℕ) → gate_at c m ≡ Some (Xor u w) → M m i → M w i
@@ -30,7 +31,7 @@ pub record IsClosed (c : Netlist) (T : ℕ → ShareSet) (L : List Place) (M : �
   pub refreshed : (m u i : ℕ) → gate_at c m ≡ Some (Ref u) → refresh_need (inner_probes m L) i ≡ true → M u i
 
 -- it holds of all that one gate demands ..
-demand_part-closed : (c : Netlist) (T : ℕ → ShareSet) (L : List Place) (M : ℕ → ℕ → Type 0) → IsClosed c T L M → (g : Gate) (n : ℕ) (O : ShareSet) →
+demand_part-closed : (c : Netlist) (T : ℕ → ShareSet) (L : List CircuitWire) (M : ℕ → ℕ → Type 0) → IsClosed c T L M → (g : Gate) (n : ℕ) (O : ShareSet) →
     gate_at c n ≡ Some g → ((i : ℕ) → O i ≡ true → M n i) → (v i : ℕ) → demand_part (T n) g (inner_probes n L) O v i ≡ true → M v i
 demand_part-closed c T L M closed Zero n O here own v i d = absurd (false≢true d)
 demand_part-closed c T L M closed One n O here own v i d = absurd (false≢true d)
@@ -56,7 +57,7 @@ demand_part-closed c T L M closed (Ref u) n O here own v i d =
     subst (λ (z : ℕ). M z i) (sym (eqb-true v u both.0)) (closed.refreshed n u i here both.1)
 
 -- .. and of all that gates demand
-pub need_part-closed : (c : Netlist) (T : ℕ → ShareSet) (L : List Place) (M : ℕ → ℕ → Type 0) → IsClosed c T L M →
+pub need_part-closed : (c : Netlist) (T : ℕ → ShareSet) (L : List CircuitWire) (M : ℕ → ℕ → Type 0) → IsClosed c T L M →
     (gs : List Gate) (n : ℕ) → AreGatesAt c gs n → (v i : ℕ) → need_part T L gs n v i ≡ true → M v i
 need_part-closed c T L M closed [] n at v i d = closed.probed v i d
 need_part-closed c T L M closed (g ∷ gs) n at v i d = ⊎_elim
@@ -69,7 +70,7 @@ abbrev pub Confined : Netlist → ℕ → ℕ → (ℕ → Type 0) → (ℕ → 
 Confined c a b X Y v i = ((i ≡ a) × ((s : ℕ) → Reaches c v s → X s)) ⊎ ((i ≡ b) × ((s : ℕ) → Reaches c v s → Y s))
 
 -- What the probe p demands: share a of values above sources in X, and share b of values above sources in Y, which are apart.
-pub record IsConfined (c : Netlist) (T : ℕ → ShareSet) (p : Place) : Type 1 where
+pub record IsConfined (c : Netlist) (T : ℕ → ShareSet) (p : CircuitWire) : Type 1 where
   pub a : ℕ
   pub b : ℕ
   pub X : ℕ → Type 0
@@ -84,7 +85,7 @@ Confined-below c a b X Y v u i up (inl (e, h)) = inl (e, λ s r. h s (up s r))
 Confined-below c a b X Y v u i up (inr (e, h)) = inr (e, λ s r. h s (up s r))
 
 -- so it demands at most one share of each source
-pub at_most_one : (c : Netlist) (T : ℕ → ShareSet) (p : Place) → IsConfined c T p → (gs : List Gate) (n : ℕ) → AreGatesAt c gs n → (s : ℕ) → Reaches c s s →
+pub at_most_one : (c : Netlist) (T : ℕ → ShareSet) (p : CircuitWire) → IsConfined c T p → (gs : List Gate) (n : ℕ) → AreGatesAt c gs n → (s : ℕ) → Reaches c s s →
     (i j : ℕ) → need_part T (p ∷ []) gs n s i ≡ true → need_part T (p ∷ []) gs n s j ≡ true → i ≡ j
 at_most_one c T p confined gs n at s source i j d e = go (within i d) (within j e)
   where
@@ -109,8 +110,8 @@ inner_probes-one m q w S here none = go (q == m) (is_share w) refl refl
 list_any-one : {A : Type 0} (test : A → Bool) (a : A) → list_any test (a ∷ []) ≡ true → test a ≡ true
 list_any-one test a h = ⊎_elim (λ e. e) (λ e. absurd (false≢true e)) (or_cases (test a) false h)
 
-one_probed : (p : Place) (v i : ℕ) → probed_shares (p ∷ []) v i ≡ true → (p.0 == v && same_wire (Share i) p.1) ≡ true
-one_probed p v i h = list_any-one (λ (q : Place). q.0 == v && same_wire (Share i) q.1) p h
+one_probed : (p : CircuitWire) (v i : ℕ) → probed_shares (p ∷ []) v i ≡ true → (p.0 == v && same_wire (Share i) p.1) ≡ true
+one_probed p v i h = list_any-one (λ (q : CircuitWire). q.0 == v && same_wire (Share i) q.1) p h
 
 -- a single inner probe on a product demands one share of either operand
 one_left : (w : Wire) (i : ℕ) → left_need (w ∷ []) i ≡ true → i ≡ row_of w
@@ -127,7 +128,7 @@ same_wire-inner (Share k) i inner = absurd (false≢true (sym inner))
 same_wire-inner w i inner = refl
 
 -- a relation that confines what a probe demands at its own gate confines all that it demands
-confined_by : (c : Netlist) (T : ℕ → ShareSet) (p : Place) (a b : ℕ) (X Y : ℕ → Type 0) → ((s : ℕ) → X s → Y s → ⊥) →
+confined_by : (c : Netlist) (T : ℕ → ShareSet) (p : CircuitWire) (a b : ℕ) (X Y : ℕ → Type 0) → ((s : ℕ) → X s → Y s → ⊥) →
     ((v i : ℕ) → probed_shares (p ∷ []) v i ≡ true → Confined c a b X Y v i) →
     ((m u w i : ℕ) → gate_at c m ≡ Some (And u w) → left_need (inner_probes m (p ∷ [])) i ≡ true → Confined c a b X Y u i) →
     ((m u w i : ℕ) → gate_at c m ≡ Some (And u w) → right_part (T m) (inner_probes m (p ∷ [])) i ≡ true → Confined c a b X Y w i) →
@@ -200,7 +201,7 @@ inner_probe_confined c T q w accepted inner o e = inner_confined c T q w 0 0 (λ
     (λ u' i h d. absurd (let other_kind = sym h ∙ e in cc))
 
 -- in an accepted circuit each probe is confined
-pub probe_confined : (c : Netlist) (T : ℕ → ShareSet) (p : Place) → IsAccepted c → IsConfined c T p
+pub probe_confined : (c : Netlist) (T : ℕ → ShareSet) (p : CircuitWire) → IsAccepted c → IsConfined c T p
 probe_confined c T p accepted = go p.1
   where
     go : (w : Wire) → IsConfined c T (p.0, w)

@@ -9,8 +9,9 @@ use Rattle.std.proofs.lemmas.List.Folds.{list_any-append}
 use Rattle.mask_circuit.specs.declared.gates.Gate.{Gate}
 use Rattle.mask_circuit.specs.declared.gates.Gate.TheVariants.{Zero, One, Xor, Not, And, Ref}
 use Rattle.mask_circuit.specs.Netlist.{OperandsBelow}
-use Rattle.mask_circuit.specs.Wires.{Wire, Share}
-use Rattle.mask_circuit.specs.Expansion.{Place}
+use Rattle.mask_circuit.specs.declared.gates.Wire.{Wire}
+use Rattle.mask_circuit.specs.declared.gates.Wire.TheVariants.{Share}
+use Rattle.mask_circuit.specs.Expansion.{CircuitWire}
 use Rattle.mask_circuit.specs.Probing.{ShareSets, same_wire}
 use Rattle.mask_circuit.specs.Need.{ShareSet, inner_probes, probed_shares, is_of_row, product_rows, demands_left, demands_right, left_need, is_update_of, refresh_need, demand, need_from}
 
@@ -28,12 +29,12 @@ demand_part T (And u w) Q O v i = (v == u && left_need Q i) || (v == w && right_
 demand_part T (Ref u) Q O v i = v == u && refresh_need Q i
 
 -- the shares that these gates demand for the probes L, where T has the touched rows of each product
-abbrev pub need_part : (ℕ → ShareSet) → List Place → List Gate → ℕ → ShareSets
+abbrev pub need_part : (ℕ → ShareSet) → List CircuitWire → List Gate → ℕ → ShareSets
 need_part T L [] n v i = probed_shares L v i
 need_part T L (g ∷ gs) n v i = need_part T L gs (suc n) v i || demand_part (T n) g (inner_probes n L) (need_part T L gs (suc n) n) v i
 
 -- the rows of each product that the probes touch
-abbrev pub touched : List Place → ℕ → ShareSet
+abbrev pub touched : List CircuitWire → ℕ → ShareSet
 touched P n = product_rows (inner_probes n P)
 
 pub demand-part : (g : Gate) (Q : List Wire) (O : ShareSet) (v i : ℕ) → demand g Q O v i ≡ demand_part (product_rows Q) g Q O v i
@@ -56,7 +57,7 @@ demand_part-below T n (And u w) Q O v i below d = ⊎_elim
 demand_part-below T n (Ref u) Q O v i below d = subst (λ (k : ℕ). k < n) (sym (eqb-true v u (and_parts (v == u) (refresh_need Q i) d).0)) below
 
 -- all probes together demand what they need
-pub need_from-part : (P : List Place) (gs : List Gate) (n v i : ℕ) → need_from P gs n v i ≡ need_part (touched P) P gs n v i
+pub need_from-part : (P : List CircuitWire) (gs : List Gate) (n v i : ℕ) → need_from P gs n v i ≡ need_part (touched P) P gs n v i
 need_from-part P [] n v i = refl
 need_from-part P (g ∷ gs) n v i =
     ap₂ (λ (b : Bool) (O : ShareSet). b || demand g (inner_probes n P) O v i) (need_from-part P gs (suc n) v i) (λ d j. need_from-part P gs (suc n) n j d)
@@ -99,11 +100,11 @@ demand_part-append T (And u w) Q Q' O O' v i = or_both _ (v == u && left_need Q 
 demand_part-append T (Ref u) Q Q' O O' v i =
     ap (λ (b : Bool). v == u && b) (list_any-append (is_update_of i) Q Q') ∙ and_or (v == u) (refresh_need Q i) (refresh_need Q' i)
 
-pub inner_probes-append : (n : ℕ) (L L' : List Place) → inner_probes n (L ++ L') ≡ inner_probes n L ++ inner_probes n L'
+pub inner_probes-append : (n : ℕ) (L L' : List CircuitWire) → inner_probes n (L ++ L') ≡ inner_probes n L ++ inner_probes n L'
 inner_probes-append n L L' = filter_map-append _ L L'
 
 -- the demands of two lists of probes are those of the one and those of the other
-pub need_part-append : (T : ℕ → ShareSet) (L L' : List Place) (gs : List Gate) (n v i : ℕ) →
+pub need_part-append : (T : ℕ → ShareSet) (L L' : List CircuitWire) (gs : List Gate) (n v i : ℕ) →
     need_part T (L ++ L') gs n v i ≡ (need_part T L gs n v i || need_part T L' gs n v i)
 need_part-append T L L' [] n v i = list_any-append (λ p. p.0 == v && same_wire (Share i) p.1) L L'
 need_part-append T L L' (g ∷ gs) n v i =

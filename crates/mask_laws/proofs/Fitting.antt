@@ -5,8 +5,9 @@ use Rattle.std.proofs.lemmas.Bool.{and_parts, and_right, not-true, cases_lt, fal
 use Rattle.mask_circuit.specs.declared.gates.Gate.{Gate}
 use Rattle.mask_circuit.specs.declared.gates.Gate.TheVariants.{Zero, One, Xor, Not, And, Ref}
 use Rattle.mask_circuit.specs.Netlist.{Netlist, AreGates}
-use Rattle.mask_circuit.specs.Wires.{Wire, Share}
-use Rattle.mask_circuit.specs.Expansion.{Place}
+use Rattle.mask_circuit.specs.declared.gates.Wire.{Wire}
+use Rattle.mask_circuit.specs.declared.gates.Wire.TheVariants.{Share}
+use Rattle.mask_circuit.specs.Expansion.{CircuitWire}
 use Rattle.mask_circuit.specs.Probing.{size, same_wire}
 use Rattle.mask_circuit.specs.Need.{ShareSet, is_share, inner_probes, need_from}
 use Rattle.mask_circuit.specs.Acceptance.{gate_at, Reaches, ProductHere, RefreshHere, IsAccepted}
@@ -72,7 +73,7 @@ need_part-own T q w (g ∷ gs) n i inner are = go (cases_lt q n) (need_part-own 
         (λ d. let below = demand_part-below (T n) n g (inner_probes n ((q, w) ∷ [])) O q i are.0 d in omega arith))
 
 -- one probe: at a source either it is an inner probe, or it demands at most one share
-one_at_source : (c : Netlist) (T : ℕ → ShareSet) (N : ℕ) (p : Place) → IsConfined c T p →
+one_at_source : (c : Netlist) (T : ℕ → ShareSet) (N : ℕ) (p : CircuitWire) → IsConfined c T p →
     (gs : List Gate) (n : ℕ) → AreGatesAt c gs n → AreGates n gs → (s : ℕ) → Reaches c s s →
     length (inner_probes s (p ∷ [])) + size N (need_part T (p ∷ []) gs n s) ≤ 1
 one_at_source c T N p confined gs n at are s source = go (is_inner_at s p) refl
@@ -88,8 +89,8 @@ one_at_source c T N p confined gs n at are s source = go (is_inner_at s p) refl
     go false e = let one = size-at_most_one N (need_part T (p ∷ []) gs n s) (at_most_one c T p confined gs n at s source) in omega arith
 
 -- a list of probes: their inner probes at a source and their demanded shares of it are no more than the probes
-pub all_at_source : (c : Netlist) (T : ℕ → ShareSet) (N : ℕ) → ((p : Place) → IsConfined c T p) →
-    (L : List Place) (gs : List Gate) (n : ℕ) → AreGatesAt c gs n → AreGates n gs → (s : ℕ) → Reaches c s s → length (inner_probes s L) + size N (need_part T L gs n s) ≤ length L
+pub all_at_source : (c : Netlist) (T : ℕ → ShareSet) (N : ℕ) → ((p : CircuitWire) → IsConfined c T p) →
+    (L : List CircuitWire) (gs : List Gate) (n : ℕ) → AreGatesAt c gs n → AreGates n gs → (s : ℕ) → Reaches c s s → length (inner_probes s L) + size N (need_part T L gs n s) ≤ length L
 all_at_source c T N confined [] gs n at are s source =
     let none : size N (need_part T [] gs n s) ≡ 0 = size-none N (need_part T [] gs n s) (λ i k. need_part-none T gs n s i) in omega arith
 all_at_source c T N confined (p ∷ L) gs n at are s source =
@@ -103,7 +104,7 @@ all_at_source c T N confined (p ∷ L) gs n at are s source =
     omega arith
 
 -- In an accepted circuit the inner probes and the demanded shares of each source are together no more than the probes.
-pub source_count : (c : Netlist) (N : ℕ) (P : List Place) → IsAccepted c →
+pub source_count : (c : Netlist) (N : ℕ) (P : List CircuitWire) → IsAccepted c →
     (gs : List Gate) (n : ℕ) → AreGatesAt c gs n → AreGates n gs → (s : ℕ) → Reaches c s s →
     length (inner_probes s P) + size N (need_from P gs n s) ≤ length P
 source_count c N P accepted gs n at are s source =
@@ -113,7 +114,7 @@ source_count c N P accepted gs n at are s source =
     omega arith
 
 -- so fewer probes than shares fit ..
-FitsAt-accepted : (c : Netlist) (N : ℕ) (P : List Place) → IsAccepted c → length P < N → (g : Gate) (gs : List Gate) (n : ℕ) → gate_at c n ≡ Some g →
+FitsAt-accepted : (c : Netlist) (N : ℕ) (P : List CircuitWire) → IsAccepted c → length P < N → (g : Gate) (gs : List Gate) (n : ℕ) → gate_at c n ≡ Some g →
     AreGatesAt c gs (suc n) → AreGates (suc n) gs → FitsAt N g (inner_probes n P) (need_from P gs (suc n) n)
 FitsAt-accepted c N P accepted few Zero gs n here at are = tt
 FitsAt-accepted c N P accepted few One gs n here at are = tt
@@ -123,7 +124,7 @@ FitsAt-accepted c N P accepted few (And u v) gs n here at are = let count = sour
 FitsAt-accepted c N P accepted few (Ref u) gs n here at are = let count = source_count c N P accepted gs (suc n) at are n (RefreshHere here) in omega arith
 
 -- .. at each gate
-pub FitsFrom-accepted : (c : Netlist) (N : ℕ) (P : List Place) → IsAccepted c → length P < N →
+pub FitsFrom-accepted : (c : Netlist) (N : ℕ) (P : List CircuitWire) → IsAccepted c → length P < N →
     (gs : List Gate) (n : ℕ) → AreGatesAt c gs n → AreGates n gs → FitsFrom N P gs n
 FitsFrom-accepted c N P accepted few [] n at are = tt
 FitsFrom-accepted c N P accepted few (g ∷ gs) n at are =

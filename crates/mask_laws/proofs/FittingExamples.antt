@@ -2,7 +2,7 @@
 use Rattle.std.proofs.Common.{[], ◌∷◌, arith}
 use Rattle.mask_circuit.specs.declared.gates.Gate.TheVariants.{And, Ref}
 use Rattle.mask_circuit.specs.Netlist.{Netlist}
-use Rattle.mask_circuit.specs.Wires.{Share, Product}
+use Rattle.mask_circuit.specs.declared.gates.Wire.TheVariants.{Share, Product}
 use Rattle.mask_laws.specs.Circuits.{Fits}
 
 -- A product whose second operand is refreshed: on two shares a probe on a_0 · b_1 fits, which demands share 1 of the refresh.

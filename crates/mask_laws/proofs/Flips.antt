@@ -2,7 +2,7 @@
 use Rattle.std.proofs.Common.{◌≡◌, ◌≢◌, ℕ, zero, suc, ◌+◌, ◌<◌, inl, inr, Bool, true, false, cond, not, ◌&&◌, ◌||◌, ◌==◌, nat_lt, List, length, Some, None, Option, refl, sym, ap, ◌∙◌, true≢false, arith, eq-eqb, eqb-true}
 use Rattle.std.specs.List.{list_any}
 use Rattle.std.proofs.lemmas.Bool.{false_from_ne_true, and_parts, not-true, eqb-false}
-use Rattle.mask_circuit.specs.Wires.{Wire}
+use Rattle.mask_circuit.specs.declared.gates.Wire.{Wire}
 use Rattle.mask_circuit.specs.Probing.{size, same_wire}
 use Rattle.mask_circuit.specs.Need.{ShareSet}
 use Rattle.mask_circuit.specs.Shift.{is_probed, wire_between, least, partner, is_some_of}

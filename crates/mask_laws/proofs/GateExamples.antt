@@ -4,7 +4,9 @@ use Rattle.std.specs.List.{slice_index_or}
 use Rattle.mask_circuit.specs.declared.gates.Gate.{Gate}
 use Rattle.mask_circuit.specs.declared.gates.Gate.TheVariants.{And, Ref}
 use Rattle.mask_circuit.specs.Ring.{bits}
-use Rattle.mask_circuit.specs.Wires.{Wire, Share, Left, Shares, gate_wire}
+use Rattle.mask_circuit.specs.declared.gates.Wire.{Wire}
+use Rattle.mask_circuit.specs.declared.gates.Wire.TheVariants.{Share, Left}
+use Rattle.mask_circuit.specs.Wires.{Shares, gate_wire}
 use Rattle.mask_circuit.specs.Need.{ShareSet}
 use Rattle.mask_circuit.specs.Shift.{gate_mask, add_bits}
 use Rattle.mask_laws.specs.Names.{pair_number, pair_count}

@@ -5,7 +5,9 @@ use Rattle.std.proofs.lemmas.List.Elements.{All-weaker, All-contains}
 use Rattle.mask_circuit.specs.declared.gates.Gate.TheVariants.{Zero, One, Xor, Not, And, Ref}
 use Rattle.mask_circuit.specs.Value.{xor}
 use Rattle.mask_circuit.specs.Ring.{bits}
-use Rattle.mask_circuit.specs.Wires.{Wire, Share, Product, Fresh, Left, Right, Partial, Shares, pairs, fresh_of, share_wire, gate_wire, product_names, refresh_names, share_names}
+use Rattle.mask_circuit.specs.declared.gates.Wire.{Wire}
+use Rattle.mask_circuit.specs.declared.gates.Wire.TheVariants.{Share, Product, Fresh, Left, Right, Partial}
+use Rattle.mask_circuit.specs.Wires.{Shares, pairs, fresh_of, share_wire, gate_wire, product_names, refresh_names, share_names}
 use Rattle.mask_circuit.specs.Need.{ShareSet, is_share, left_need, right_need, refresh_need}
 use Rattle.mask_circuit.specs.Shift.{sides_of, product_mask, refresh_mask, gate_mask, add_bits}
 use Rattle.mask_laws.specs.Names.{IsPair, IsProductName, IsRefreshName}

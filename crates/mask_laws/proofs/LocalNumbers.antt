@@ -1,53 +1,15 @@
 -- The local numbers of a gate's wires.
 use Rattle.std.proofs.Common.{◌≡◌, ℕ, zero, suc, pred, ◌+◌, ◌-◌, ◌*◌, ◌/◌, ◌<◌, ◌≤◌, ◌++◌, length, flat_map, slice_get, Some, refl, ◌∙◌, subst, arith, add-zero, length-append}
-use Rattle.mask_circuit.specs.Wires.{Wire, Share, Product, Fresh, Left, Right, Pair, each, joined, row_pairs, pairs, other, row_wire, product_names, refresh_names}
+use Rattle.mask_circuit.specs.declared.gates.Wire.{Wire}
+use Rattle.mask_circuit.specs.declared.gates.Wire.TheVariants.{Share, Product, Fresh, Left, Right}
+use Rattle.mask_circuit.specs.Wires.{Pair, each, joined, row_pairs, pairs, other, row_wire, product_names, refresh_names}
 use Rattle.mask_laws.specs.Names.{IsPair, pairs_before, pair_number, pair_count, PairsInOrder, ProductInOrder, RefreshInOrder, SharesInOrder, NamesInOrder}
+use Rattle.mask_circuit.proofs.PairNumbers.{length-pairs, slice_get-pairs}
 use Rattle.mask_laws.proofs.Names.{products, of_pair, rows, updates}
 use Rattle.mask_circuit.proofs.Places.{slice_get-append_front, back_at, length-each, slice_get-each, slice_get-joined, length-joined, slice_get-threes, length-threes}
 
--- PAIRS
-
--- the pairs before those of row i, counted
-length-rows_before : (n i : ℕ) → length (joined (row_pairs n) i) ≡ pairs_before n i
-length-rows_before n zero = refl
-length-rows_before n (suc i) =
-    let up = length-rows_before n i in
-    let here = length-each {A = Pair} (λ (m : ℕ). (i, suc i + m)) (n - suc i) in
-    omega (arith, length-append (joined (row_pairs n) i) (row_pairs n i))
-
--- twice the sum of n - 1, n - 2, .., n - i
-twice_before : (n i : ℕ) → i ≤ n → 2 * pairs_before n i + i * suc i ≡ 2 * (i * n)
-twice_before n zero le = omega arith
-twice_before n (suc i) le = let up = twice_before n i (omega arith) in omega arith
-
--- so all of them are half of n · (n - 1)
-half : (a b : ℕ) → 2 * a ≡ b → a ≡ b / 2
-half a b e = omega arith
-
-count_is : (n : ℕ) → pairs_before n n ≡ pair_count n
-count_is zero = refl
-count_is (suc n) =
-    let twice = twice_before (suc n) (suc n) (omega arith) in
-    let one_less : suc n - 1 ≡ n = omega arith in
-    half (pairs_before (suc n) (suc n)) (suc n * (suc n - 1)) (rw one_less (omega arith))
-
-length-pairs : (n : ℕ) → length (pairs n) ≡ pair_count n
-length-pairs n = length-rows_before n n ∙ count_is n
-
--- the pair (i, j) in its row, and in the whole list
-in_row : (n i j : ℕ) → IsPair n i j → slice_get (row_pairs n i) (j - suc i) ≡ Some (i, j)
-in_row n i j is =
-    let second : suc i + (j - suc i) ≡ j = omega (arith, is.0) in
-    subst (λ (k : ℕ). slice_get (row_pairs n i) (j - suc i) ≡ Some (i, k)) second
-    (slice_get-each {A = Pair} (λ (k : ℕ). (i, suc i + k)) (n - suc i) (j - suc i) (omega (arith, is.0, is.1)))
-
-pair_at : (n i j : ℕ) → IsPair n i j → slice_get (pairs n) (pair_number n i j) ≡ Some (i, j)
-pair_at n i j is =
-    rw (← (length-rows_before n i))
-    (slice_get-joined (row_pairs n) n i (j - suc i) (i, j) (omega (arith, is.0, is.1)) (in_row n i j is))
-
 pub pairs_in_order : (n : ℕ) → PairsInOrder n
-pairs_in_order n = record { pair = pair_at n; count = length-pairs n }
+pairs_in_order n = record { pair = slice_get-pairs n; count = length-pairs n }
 
 -- SHARES
 
@@ -75,7 +37,7 @@ length-pair_wires n = rw (length-threes of_pair (pairs n) (λ q. refl), length-p
 pair_wire_at : (n i j t : ℕ) (w : Wire) → IsPair n i j → slice_get (of_pair (i, j)) t ≡ Some w →
     slice_get (flat_map of_pair (pairs n)) (3 * pair_number n i j + t) ≡ Some w
 unfolding of_pair
-pair_wire_at n i j t w is h = slice_get-threes of_pair (pairs n) (pair_number n i j) t (i, j) w (λ q. refl) (pair_at n i j is) h
+pair_wire_at n i j t w is h = slice_get-threes of_pair (pairs n) (pair_number n i j) t (i, j) w (λ q. refl) (slice_get-pairs n i j is) h
 
 -- the last part: the rows
 length-row : (n i : ℕ) → length (each (λ m. row_wire n i (other i m)) (pred n)) ≡ n - 1
@@ -132,7 +94,7 @@ product_in_order n = record {
 update_at : (n i j t : ℕ) (w : Wire) → IsPair n i j → slice_get (updates n (i, j)) t ≡ Some w →
     slice_get (refresh_names n) (3 * pair_number n i j + t) ≡ Some w
 unfolding updates
-update_at n i j t w is h = slice_get-threes (updates n) (pairs n) (pair_number n i j) t (i, j) w (λ q. refl) (pair_at n i j is) h
+update_at n i j t w is h = slice_get-threes (updates n) (pairs n) (pair_number n i j) t (i, j) w (λ q. refl) (slice_get-pairs n i j is) h
 
 pub refresh_in_order : (n : ℕ) → RefreshInOrder n
 unfolding updates

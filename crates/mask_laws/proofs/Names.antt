@@ -3,7 +3,9 @@ use Rattle.std.proofs.Common.{◌≡◌, ◌≢◌, ℕ, suc, pred, ◌+◌, ◌
 use Rattle.std.proofs.lemmas.Bool.{cases_lt, cases_eq, cond-true, cond-false, or_right, or_left, and_from}
 use Rattle.std.proofs.lemmas.List.Elements.{Contains-append_left, Contains-append_right, Contains-append_cases}
 use Rattle.mask_circuit.specs.declared.gates.Gate.TheVariants.{Zero, One, Xor, Not, And, Ref}
-use Rattle.mask_circuit.specs.Wires.{Wire, Share, Product, Fresh, Left, Right, Partial, Pair, each, joined, row_pairs, pairs, other, is_last, row_wire, share_names, product_names, refresh_names}
+use Rattle.mask_circuit.specs.declared.gates.Wire.{Wire}
+use Rattle.mask_circuit.specs.declared.gates.Wire.TheVariants.{Share, Product, Fresh, Left, Right, Partial}
+use Rattle.mask_circuit.specs.Wires.{Pair, each, joined, row_pairs, pairs, other, is_last, row_wire, share_names, product_names, refresh_names}
 use Rattle.mask_circuit.specs.Probing.{same_wire}
 use Rattle.mask_laws.specs.Names.{IsShareName, IsPair, IsInnerColumn, IsProductName, IsRefreshName, GateHasNames}
 use Rattle.mask_laws.proofs.Members.{first_of_three, second_of_three, third_of_three, each_place, Contains-each, joined_piece, Contains-joined, flat_map_piece, Contains-flat_map, holds_of_three}

@@ -5,8 +5,10 @@ use Rattle.std.proofs.lemmas.Bool.{eq-eqb, eqb-true, and_parts, and_from, true�
 use Rattle.std.proofs.lemmas.Option.{none-some, same_Some, slice_get-get_or}
 use Rattle.mask_circuit.specs.declared.gates.Gate.{Gate}
 use Rattle.mask_circuit.specs.declared.gates.Gate.TheVariants.{Zero, One, Xor, Not, And, Ref}
-use Rattle.mask_circuit.specs.Wires.{Wire, Share, Product, Fresh, Left, Right, Partial, gate_names}
-use Rattle.mask_circuit.specs.Expansion.{Place, names, names_by, names_of, wires_before}
+use Rattle.mask_circuit.specs.declared.gates.Wire.{Wire}
+use Rattle.mask_circuit.specs.declared.gates.Wire.TheVariants.{Share, Product, Fresh, Left, Right, Partial}
+use Rattle.mask_circuit.specs.Wires.{gate_names}
+use Rattle.mask_circuit.specs.Expansion.{CircuitWire, names, names_by, names_of, wires_before}
 use Rattle.mask_circuit.specs.Probing.{same_wire, places_before}
 use Rattle.mask_circuit.specs.Acceptance.{gate_at}
 use Rattle.mask_laws.specs.Numbering.{WiresInOrder, WiresAreCounted, SharesHavePlaces}
@@ -44,11 +46,11 @@ same_share i (Right j k) e = absurd (true≢false (sym e))
 same_share i (Partial j k) e = absurd (true≢false (sym e))
 
 -- whether a place is share i of value u
-abbrev pub is_share_of : ℕ → ℕ → Place → Bool
+abbrev pub is_share_of : ℕ → ℕ → CircuitWire → Bool
 is_share_of u i p = p.0 == u && same_wire (Share i) p.1
 
 -- one place alone is called so ..
-is_share_of-true : (u i : ℕ) (p : Place) → is_share_of u i p ≡ true → p ≡ (u, Share i)
+is_share_of-true : (u i : ℕ) (p : CircuitWire) → is_share_of u i p ≡ true → p ≡ (u, Share i)
 is_share_of-true u i p e =
     let parts = and_parts (p.0 == u) (same_wire (Share i) p.1) e in
     ap₂ (λ a b. (a, b)) (eqb-true p.0 u parts.0) (same_share i p.1 parts.1)

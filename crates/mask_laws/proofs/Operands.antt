@@ -6,7 +6,9 @@ use Rattle.mask_circuit.specs.declared.gates.Gate.TheVariants.{Zero, One, Xor, N
 use Rattle.mask_circuit.specs.Netlist.{OperandsBelow}
 use Rattle.mask_circuit.specs.Value.{xor}
 use Rattle.mask_circuit.specs.Ring.{bits}
-use Rattle.mask_circuit.specs.Wires.{Wire, Share, Fresh, Left, Shares, pairs, row_sum, fresh_of, fresh_between, cross, product_wire, gate_wire}
+use Rattle.mask_circuit.specs.declared.gates.Wire.{Wire}
+use Rattle.mask_circuit.specs.declared.gates.Wire.TheVariants.{Share, Fresh, Left}
+use Rattle.mask_circuit.specs.Wires.{Shares, pairs, row_sum, fresh_of, fresh_between, cross, product_wire, gate_wire}
 use Rattle.mask_circuit.specs.Need.{ShareSet, product_rows, refresh_need}
 use Rattle.mask_circuit.specs.Shift.{Sides, product_change, is_probed, wire_between, least, partner, product_base, cross_change, share_change, product_mask, refresh_mask, sides_of, gate_mask}
 use Rattle.mask_laws.proofs.Members.{Contains-first, Contains-later}

@@ -7,8 +7,9 @@ use Rattle.std.proofs.lemmas.List.Elements.{filter-append, All-head, All-tail, A
 use Rattle.std.proofs.lemmas.List.Folds.{list_any-append}
 use Rattle.std.proofs.lemmas.Option.{get_or_from_slice_get, slice_get_within}
 use Rattle.mask_circuit.specs.Netlist.{Netlist, value_count}
-use Rattle.mask_circuit.specs.Wires.{Share, each}
-use Rattle.mask_circuit.specs.Expansion.{Place, names, wire_count}
+use Rattle.mask_circuit.specs.declared.gates.Wire.TheVariants.{Share}
+use Rattle.mask_circuit.specs.Wires.{each}
+use Rattle.mask_circuit.specs.Expansion.{CircuitWire, names, wire_count}
 use Rattle.mask_circuit.specs.Probing.{share_place, output_places}
 use Rattle.mask_circuit.specs.Need.{inner_probes, probed_shares, probes_at}
 use Rattle.mask_laws.proofs.Numbering.{shares_have_places}
@@ -26,7 +27,7 @@ places_from c N O [] k = []
 places_from c N O (u ∷ us) k = map (share_place c N u) (members N (O k)) ++ places_from c N O us (suc k)
 
 -- the same wires by name
-abbrev pub output_names : ℕ → (ℕ → ℕ → Bool) → List ℕ → ℕ → List Place
+abbrev pub output_names : ℕ → (ℕ → ℕ → Bool) → List ℕ → ℕ → List CircuitWire
 output_names N O [] k = []
 output_names N O (u ∷ us) k = map (λ i. (u, Share i)) (members N (O k)) ++ output_names N O us (suc k)
 

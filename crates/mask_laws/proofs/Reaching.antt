@@ -4,7 +4,7 @@ use Rattle.std.proofs.lemmas.Bool.{eq-eqb, ne_eqb, eqb-true, lt-ltb, le-ltb, cas
 use Rattle.std.proofs.lemmas.Option.{none-some, same_Some}
 use Rattle.mask_circuit.specs.declared.gates.Gate.{Gate}
 use Rattle.mask_circuit.specs.declared.gates.Gate.TheVariants.{Zero, One, Xor, Not, And, Ref}
-use Rattle.mask_circuit.specs.Netlist.{Netlist, IsCircuit, AreGates, OperandsBelow, value_count}
+use Rattle.mask_circuit.specs.Netlist.{Netlist, IsWellFormed, AreGates, OperandsBelow, value_count}
 use Rattle.mask_circuit.specs.Acceptance.{gate_at, Reaches, Input, ProductHere, RefreshHere, FromLeft, FromRight, FromNegated, Uses}
 use Rattle.mask_laws.specs.Clashes.{Table, gate_reach, reach_from, reach, TidyIsAccepted, TableReaches}
 use Rattle.mask_circuit.proofs.GateAt.{gate_at_input, gate_at_within, gate_at_operands, AreGatesAt, AreGatesAt-all}
@@ -125,7 +125,7 @@ start_table c = record {
     sound_at u s (inr le) e = absurd (true≢false (sym (rw (le-ltb u c.inputs le) at e)))
 
 -- the table of the circuit is right about all values
-pub table_is : (c : Netlist) → IsCircuit c → IsTable c (value_count c) (reach c)
+pub table_is : (c : Netlist) → IsWellFormed c → IsTable c (value_count c) (reach c)
 unfolding reach
 table_is c is = tables c c.gates c.inputs _ (AreGatesAt-all c) is.gates (start_table c)
 

@@ -4,7 +4,9 @@ use Rattle.std.proofs.lemmas.Bool.{cases_lt, or_cases}
 use Rattle.std.proofs.lemmas.List.Elements.{All-contains}
 use Rattle.mask_circuit.specs.Value.{xor}
 use Rattle.mask_circuit.specs.Ring.{bits}
-use Rattle.mask_circuit.specs.Wires.{Wire, Share, Product, Fresh, Left, Right, Partial, row_sum, fresh_between, refresh_wire}
+use Rattle.mask_circuit.specs.declared.gates.Wire.{Wire}
+use Rattle.mask_circuit.specs.declared.gates.Wire.TheVariants.{Share, Product, Fresh, Left, Right, Partial}
+use Rattle.mask_circuit.specs.Wires.{row_sum, fresh_between, refresh_wire}
 use Rattle.mask_circuit.specs.Probing.{same_wire}
 use Rattle.mask_circuit.specs.Need.{ShareSet, is_share, is_update_of, refresh_need}
 use Rattle.mask_circuit.specs.Shift.{Sides, is_probed, wire_between, partner, refresh_mask}

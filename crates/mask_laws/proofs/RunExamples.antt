@@ -4,12 +4,13 @@ use Rattle.std.specs.declared.option.Option.{Option}
 use Rattle.std.proofs.lemmas.List.Elements.{All-nil, All-cons}
 use Rattle.std.specs.List.{slice_index_or}
 use Rattle.mask_circuit.specs.declared.gates.Gate.{Gate}
-use Rattle.mask_circuit.specs.declared.gates.Gate.TheVariants.{And, Ref}
-use Rattle.mask_circuit.specs.Netlist.{Netlist, IsCircuit, value_count}
+use Rattle.mask_circuit.specs.declared.gates.Gate.TheVariants.{Ref}
+use Rattle.mask_circuit.specs.Netlist.{Netlist, IsWellFormed, value_count}
 use Rattle.mask_circuit.specs.Wires.{Shares, each}
 use Rattle.mask_circuit.specs.Acceptance.{gate_at, Uses, IsAccepted, IsFenced}
 use Rattle.mask_laws.specs.Clashes.{reach, clash}
-use Rattle.mask_laws.specs.Runs.{Call, Variable, Output, source_at, IsPublic, IsThere, IsStrongRun, run_draws, run_seen, run_hits, run_need}
+use Rattle.mask_laws.specs.Refutations.{refreshed_product}
+use Rattle.mask_laws.specs.Runs.{Call, Variable, Output, origin_at, IsPublic, IsThere, IsStrongRun, run_draws, run_seen, run_hits, private_run_hits, run_need}
 use Rattle.mask_laws.proofs.Clashing.{clash_decides}
 use Rattle.mask_circuit.proofs.GateAt.{gate_at_within}
 
@@ -27,10 +28,10 @@ past_gates c v u past h = go (gate_at c v) refl h
 
 -- The first call refreshes variable 0; the second one multiplies that by variable 1 and refreshes the product.
 refreshed : Call
-refreshed = record { circuit = record { inputs = 1; gates = Ref 0 ∷ []; outputs = 1 ∷ [] }; sources = Variable 0 ∷ [] }
+refreshed = record { circuit = record { inputs = 1; gates = Ref 0 ∷ []; outputs = 1 ∷ [] }; origins = Variable 0 ∷ [] }
 
 multiplied : Call
-multiplied = record { circuit = record { inputs = 2; gates = And 0 1 ∷ Ref 2 ∷ []; outputs = 3 ∷ [] }; sources = Output 0 0 ∷ Variable 1 ∷ [] }
+multiplied = record { circuit = refreshed_product; origins = Output 0 0 ∷ Variable 1 ∷ [] }
 
 example : List Call
 example = refreshed ∷ multiplied ∷ []
@@ -58,14 +59,18 @@ example_hits : map (λ bss. run_hits example 2 (listed bss) (10 ∷ []) (true �
 unfolding example refreshed multiplied listed
 example_hits = refl
 
--- The run is a strong one: its circuits are strong, and no call takes a source twice.
-refreshed_circuit : IsCircuit refreshed.circuit
+-- Over all sharings of the variables as many show it, whatever their bits are: of 4 sharings with 8 tapes each.
+example_private_hits : map (λ x. private_run_hits example 2 x (10 ∷ []) (true ∷ []))
+    ((false ∷ false ∷ []) ∷ (false ∷ true ∷ []) ∷ (true ∷ false ∷ []) ∷ (true ∷ true ∷ []) ∷ []) ≡ 8 ∷ 8 ∷ 8 ∷ 8 ∷ []
+unfolding example refreshed multiplied
+example_private_hits = refl
+
+-- The run is a strong one: its circuits are strong, and no call takes an origin twice.
+refreshed_formed : IsWellFormed refreshed.circuit
 unfolding refreshed
-refreshed_circuit = record {
+refreshed_formed = record {
   gates = (omega arith, tt);
   outputs = All-cons (λ u. u < 2) 1 [] (omega arith) (All-nil (λ u. u < 2));
-  few_values = omega arith;
-  few_outputs = omega arith;
 }
 
 refreshed_unused : (v : ℕ) → Uses 1 (gate_at refreshed.circuit v) → ⊥
@@ -79,37 +84,32 @@ unfolding refreshed
 refreshed_fenced zero lt = record { is_refresh = (0, refl); is_unused = refreshed_unused; is_first = λ i l. absurd (omega arith) }
 refreshed_fenced (suc k) lt = absurd (omega arith)
 
-multiplied_circuit : IsCircuit multiplied.circuit
-unfolding multiplied
-multiplied_circuit = record {
+pub product_formed : IsWellFormed refreshed_product
+product_formed = record {
   gates = ((omega arith, omega arith), (omega arith, tt));
   outputs = All-cons (λ u. u < 4) 3 [] (omega arith) (All-nil (λ u. u < 4));
-  few_values = omega arith;
-  few_outputs = omega arith;
 }
 
-multiplied_unused : (v : ℕ) → Uses 3 (gate_at multiplied.circuit v) → ⊥
-unfolding multiplied
-multiplied_unused zero h = h
-multiplied_unused (suc zero) h = h
-multiplied_unused (suc (suc zero)) h = elim h [ inl e ↦ absurd (omega arith) | inr e ↦ absurd (omega arith) ]
-multiplied_unused (suc (suc (suc zero))) h = absurd (omega arith)
-multiplied_unused (suc (suc (suc (suc v)))) h = past_gates multiplied.circuit (suc (suc (suc (suc v)))) 3 (omega arith) h
+product_unused : (v : ℕ) → Uses 3 (gate_at refreshed_product v) → ⊥
+product_unused zero h = h
+product_unused (suc zero) h = h
+product_unused (suc (suc zero)) h = elim h [ inl e ↦ absurd (omega arith) | inr e ↦ absurd (omega arith) ]
+product_unused (suc (suc (suc zero))) h = absurd (omega arith)
+product_unused (suc (suc (suc (suc v)))) h = past_gates refreshed_product (suc (suc (suc (suc v)))) 3 (omega arith) h
 
-multiplied_fenced : IsFenced multiplied.circuit
-unfolding multiplied
-multiplied_fenced zero lt = record { is_refresh = (2, refl); is_unused = multiplied_unused; is_first = λ i l. absurd (omega arith) }
-multiplied_fenced (suc k) lt = absurd (omega arith)
+pub product_fenced : IsFenced refreshed_product
+product_fenced zero lt = record { is_refresh = (2, refl); is_unused = product_unused; is_first = λ i l. absurd (omega arith) }
+product_fenced (suc k) lt = absurd (omega arith)
 
 refreshed_accepted : IsAccepted refreshed.circuit
 unfolding refreshed reach clash
-refreshed_accepted = (clash_decides refreshed.circuit refreshed_circuit).0.0 refl
+refreshed_accepted = (clash_decides refreshed.circuit refreshed_formed).0.0 refl
 
-multiplied_accepted : IsAccepted multiplied.circuit
-unfolding multiplied reach clash
-multiplied_accepted = (clash_decides multiplied.circuit multiplied_circuit).0.0 refl
+pub product_accepted : IsAccepted refreshed_product
+unfolding reach clash
+product_accepted = (clash_decides refreshed_product product_formed).0.0 refl
 
-multiplied_once : (u v : ℕ) → u < v → v < 2 → source_at multiplied u ≡ source_at multiplied v → IsPublic (source_at multiplied u)
+multiplied_once : (u v : ℕ) → u < v → v < 2 → origin_at multiplied u ≡ origin_at multiplied v → IsPublic (origin_at multiplied u)
 unfolding multiplied
 multiplied_once zero zero lt two e = absurd (omega arith)
 multiplied_once zero (suc zero) lt two e = cc
@@ -120,17 +120,17 @@ example_strong : IsStrongRun example
 unfolding example refreshed multiplied
 example_strong = (
   record {
-    circuit = refreshed_circuit;
+    formed = refreshed_formed;
     strong = (refreshed_accepted, refreshed_fenced);
-    sources = refl;
+    origins = refl;
     there = All-cons (IsThere []) (Variable 0) [] tt (All-nil (IsThere []));
     once = λ u v lt one e. absurd (omega arith);
   },
   (
     record {
-      circuit = multiplied_circuit;
-      strong = (multiplied_accepted, multiplied_fenced);
-      sources = refl;
+      formed = product_formed;
+      strong = (product_accepted, product_fenced);
+      origins = refl;
       there = All-cons (IsThere (1 ∷ [])) (Output 0 0) (Variable 1 ∷ []) (omega arith, omega arith)
           (All-cons (IsThere (1 ∷ [])) (Variable 1) [] tt (All-nil (IsThere (1 ∷ []))));
       once = multiplied_once;

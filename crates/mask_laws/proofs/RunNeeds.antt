@@ -10,7 +10,7 @@ use Rattle.mask_circuit.specs.Wires.{each}
 use Rattle.mask_circuit.specs.Probing.{size, ShareSets, output_places}
 use Rattle.mask_circuit.specs.Need.{ShareSet, need}
 use Rattle.mask_laws.specs.Strong.{AreAllowed}
-use Rattle.mask_laws.specs.Runs.{Source, Public, Variable, Output, Call, source_at, call_wires, IsPublic, IsStrongCall, AreStrongCalls, places_within, places_behind, same_source, demanded_by, demanded, StrongRunsBegin, StrongRunsGrow}
+use Rattle.mask_laws.specs.Runs.{Origin, Public, Variable, Output, Call, origin_at, call_wires, IsPublic, IsStrongCall, AreStrongCalls, places_within, places_behind, same_origin, demanded_by, demanded, StrongRunsBegin, StrongRunsGrow}
 use Rattle.mask_laws.proofs.Sets.{size-mono, size-or, size-none}
 use Rattle.mask_laws.proofs.Strengthening.{size_cases, need_small}
 
@@ -46,25 +46,25 @@ not_xor true false e = absurd (true≢false (sym e))
 not_xor false true e = absurd (true≢false (sym e))
 not_xor false false e = refl
 
--- the test finds the same source alone ..
-same_source-true : (s t : Source) → same_source s t ≡ true → s ≡ t
-same_source-true (Public a) (Public b) e = ap Public (not_xor a b e)
-same_source-true (Public a) (Variable v) e = absurd (true≢false (sym e))
-same_source-true (Public a) (Output j k) e = absurd (true≢false (sym e))
-same_source-true (Variable u) (Public b) e = absurd (true≢false (sym e))
-same_source-true (Variable u) (Variable v) e = ap Variable (eqb-true u v e)
-same_source-true (Variable u) (Output j k) e = absurd (true≢false (sym e))
-same_source-true (Output i l) (Public b) e = absurd (true≢false (sym e))
-same_source-true (Output i l) (Variable v) e = absurd (true≢false (sym e))
-same_source-true (Output i l) (Output j k) e =
+-- the test finds the same origin alone ..
+same_origin-true : (s t : Origin) → same_origin s t ≡ true → s ≡ t
+same_origin-true (Public a) (Public b) e = ap Public (not_xor a b e)
+same_origin-true (Public a) (Variable v) e = absurd (true≢false (sym e))
+same_origin-true (Public a) (Output j k) e = absurd (true≢false (sym e))
+same_origin-true (Variable u) (Public b) e = absurd (true≢false (sym e))
+same_origin-true (Variable u) (Variable v) e = ap Variable (eqb-true u v e)
+same_origin-true (Variable u) (Output j k) e = absurd (true≢false (sym e))
+same_origin-true (Output i l) (Public b) e = absurd (true≢false (sym e))
+same_origin-true (Output i l) (Variable v) e = absurd (true≢false (sym e))
+same_origin-true (Output i l) (Output j k) e =
     let parts = and_parts (i == j) (l == k) e in ap₂ (λ a b. Output a b) (eqb-true i j parts.0) (eqb-true l k parts.1)
 
 -- .. and finds it
-same_source-itself : (s : Source) → same_source s s ≡ true
-same_source-itself (Public true) = refl
-same_source-itself (Public false) = refl
-same_source-itself (Variable v) = eq-eqb v v refl
-same_source-itself (Output j k) = and_from (j == j) (k == k) (eq-eqb j j refl) (eq-eqb k k refl)
+same_origin-itself : (s : Origin) → same_origin s s ≡ true
+same_origin-itself (Public true) = refl
+same_origin-itself (Public false) = refl
+same_origin-itself (Variable v) = eq-eqb v v refl
+same_origin-itself (Output j k) = and_from (j == j) (k == k) (eq-eqb j j refl) (eq-eqb k k refl)
 
 -- some number below n passes where the test says so ..
 any_below : (test : ℕ → Bool) (n : ℕ) → list_any test (each (λ v. v) n) ≡ true → (v : ℕ) × (v < n) × (test v ≡ true)
@@ -86,27 +86,27 @@ below_any test (suc n) v lt is = list_any-append test (each (λ v. v) n) (n ∷ 
     go (inr (inl l)) up = or_left _ (test n || false) (up l)
     go (inr (inr g)) up = absurd (omega arith)
 
--- a demanded share of a source is one of an input that has this source ..
-pub demanded_by-only : (call : Call) (I : ShareSets) (s : Source) (i : ℕ) → demanded_by call I s i ≡ true →
-    (v : ℕ) × (v < call.circuit.inputs) × (source_at call v ≡ s) × (I v i ≡ true)
+-- a demanded share of an origin is one of an input that has this origin ..
+pub demanded_by-only : (call : Call) (I : ShareSets) (s : Origin) (i : ℕ) → demanded_by call I s i ≡ true →
+    (v : ℕ) × (v < call.circuit.inputs) × (origin_at call v ≡ s) × (I v i ≡ true)
 demanded_by-only call I s i e =
-    let r = any_below (λ v. same_source (source_at call v) s && I v i) call.circuit.inputs e in
-    let parts = and_parts (same_source (source_at call r.0) s) (I r.0 i) r.2 in
-    (r.0, r.1, same_source-true (source_at call r.0) s parts.0, parts.1)
+    let r = any_below (λ v. same_origin (origin_at call v) s && I v i) call.circuit.inputs e in
+    let parts = and_parts (same_origin (origin_at call r.0) s) (I r.0 i) r.2 in
+    (r.0, r.1, same_origin-true (origin_at call r.0) s parts.0, parts.1)
 
 -- .. and those of each input are demanded
-pub demanded_by-all : (call : Call) (I : ShareSets) (v i : ℕ) → v < call.circuit.inputs → I v i ≡ true → demanded_by call I (source_at call v) i ≡ true
+pub demanded_by-all : (call : Call) (I : ShareSets) (v i : ℕ) → v < call.circuit.inputs → I v i ≡ true → demanded_by call I (origin_at call v) i ≡ true
 demanded_by-all call I v i lt is =
-    below_any (λ u. same_source (source_at call u) (source_at call v) && I u i) call.circuit.inputs v lt
-    (and_from (same_source (source_at call v) (source_at call v)) (I v i) (same_source-itself (source_at call v)) is)
+    below_any (λ u. same_origin (origin_at call u) (origin_at call v) && I u i) call.circuit.inputs v lt
+    (and_from (same_origin (origin_at call v) (origin_at call v)) (I v i) (same_origin-itself (origin_at call v)) is)
 
--- where no source is taken twice, no more shares of it are demanded than of some input
-size-demanded_by : (counts : List ℕ) (call : Call) (I : ShareSets) (s : Source) (N t : ℕ) → IsStrongCall counts call → (IsPublic s → ⊥) →
+-- where no origin is taken twice, no more shares of it are demanded than of some input
+size-demanded_by : (counts : List ℕ) (call : Call) (I : ShareSets) (s : Origin) (N t : ℕ) → IsStrongCall counts call → (IsPublic s → ⊥) →
     ((v : ℕ) → v < call.circuit.inputs → size N (I v) ≤ t) → size N (demanded_by call I s) ≤ t
 size-demanded_by counts call I s N t is secret small = go (size_cases N (demanded_by call I s))
   where
-    apart : (u v : ℕ) → u < v → v < call.circuit.inputs → source_at call u ≡ s → source_at call v ≡ s → ⊥
-    apart u v lt within one two = secret (subst IsPublic one (is.once u v lt (omega (arith, is.sources)) (one ∙ sym two)))
+    apart : (u v : ℕ) → u < v → v < call.circuit.inputs → origin_at call u ≡ s → origin_at call v ≡ s → ⊥
+    apart u v lt within one two = secret (subst IsPublic one (is.once u v lt (omega (arith, is.origins)) (one ∙ sym two)))
 
     go : (size N (demanded_by call I s) ≡ 0) ⊎ ((i : ℕ) × (i < N) × (demanded_by call I s i ≡ true)) → size N (demanded_by call I s) ≤ t
     go (inl none) = omega arith
@@ -131,12 +131,12 @@ asked_of call calls N j P k = demanded calls N (places_behind (call_wires N call
 abbrev pub call_probes : Call → List Call → ℕ → ℕ → List ℕ → List ℕ
 call_probes call calls N j P = places_within (call_wires N call) P ++ output_places call.circuit N (asked_of call calls N j P)
 
--- No source that isn't public has more demanded shares than there are probes.
-pub demanded_small : (calls : List Call) (N : ℕ) (P counts : List ℕ) (s : Source) → AreStrongCalls counts calls → (IsPublic s → ⊥) → size N (demanded calls N P s) ≤ length P
+-- No origin that isn't public has more demanded shares than there are probes.
+pub demanded_small : (calls : List Call) (N : ℕ) (P counts : List ℕ) (s : Origin) → AreStrongCalls counts calls → (IsPublic s → ⊥) → size N (demanded calls N P s) ≤ length P
 demanded_small [] N P counts s are secret = let none : size N (λ i. false) ≡ 0 = size-none N (λ i. false) (λ i lt. refl) in omega arith
 demanded_small (call ∷ calls) N P counts s are secret =
     let own = size-demanded_by counts call (need call.circuit N (places_within (call_wires N call) P)) s N (length (places_within (call_wires N call) P)) are.0 secret
-    (need_small call.circuit N (places_within (call_wires N call) P) are.0.circuit are.0.strong) in
+    (need_small call.circuit N (places_within (call_wires N call) P) are.0.formed are.0.strong.0) in
     let later = demanded_small calls N (places_behind (call_wires N call) P) _ s are.1 secret in
     let both = size-or N (demanded_by call (need call.circuit N (places_within (call_wires N call) P)) s) (demanded calls N (places_behind (call_wires N call) P) s) in
     let parts = length-places (call_wires N call) P in

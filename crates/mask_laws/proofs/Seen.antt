@@ -4,8 +4,10 @@ use Rattle.std.proofs.lemmas.List.Elements.{All-head, All-tail, All-contains, Co
 use Rattle.std.proofs.lemmas.Bool.{false≢true}
 use Rattle.mask_circuit.specs.Netlist.{Netlist, AreGates, value_count}
 use Rattle.mask_circuit.specs.Ring.{bits}
-use Rattle.mask_circuit.specs.Wires.{Wire, Share, Shares}
-use Rattle.mask_circuit.specs.Expansion.{Place, Trace, start, expand, draws, names, wire_count}
+use Rattle.mask_circuit.specs.declared.gates.Wire.{Wire}
+use Rattle.mask_circuit.specs.declared.gates.Wire.TheVariants.{Share}
+use Rattle.mask_circuit.specs.Wires.{Shares}
+use Rattle.mask_circuit.specs.Expansion.{CircuitWire, Carried, start, expand, draws, names, wire_count}
 use Rattle.mask_circuit.specs.Probing.{seen, sum_over_tapes, same_bits, AgreeOn}
 use Rattle.mask_circuit.specs.Need.{is_share, need_from, probes_at}
 use Rattle.mask_circuit.specs.Shift.{shift, shift_from}
@@ -15,15 +17,15 @@ use Rattle.mask_laws.proofs.Tapes.{sum_over_tapes-same}
 use Rattle.mask_laws.proofs.Probes.{probed_shares-from_Contains, need_from-probed}
 use Rattle.mask_laws.proofs.Members.{Contains-first, Contains-later}
 use Rattle.mask_laws.proofs.Shifts.{sum_over_tapes-shift_from, length-shift_from, shift_from-back}
-use Rattle.mask_laws.proofs.Keeping.{TracesAgree, keeps_from}
+use Rattle.mask_laws.proofs.Keeping.{CarriedAgree, keeps_from}
 use Rattle.mask_laws.proofs.CircuitNames.{IsNamedFrom, names-within, AreNamed-from_names}
 
 -- the shift by the names of probes
-abbrev pub shift_by : Netlist → ℕ → (ℕ → Shares Bool) → (ℕ → Shares Bool) → List Place → List Bool → List Bool
+abbrev pub shift_by : Netlist → ℕ → (ℕ → Shares Bool) → (ℕ → Shares Bool) → List CircuitWire → List Bool → List Bool
 shift_by c N x y P r = shift_from P N c.gates c.inputs (start bits x) (start bits y) r
 
 -- what the probes of these names see
-abbrev pub seen_by : Netlist → ℕ → (ℕ → Shares Bool) → List Bool → List Place → List Bool
+abbrev pub seen_by : Netlist → ℕ → (ℕ → Shares Bool) → List Bool → List CircuitWire → List Bool
 seen_by c N x r P = map (λ p. expand bits c N x r p.0 p.1) P
 
 -- before any gate there are shares alone
@@ -31,17 +33,17 @@ start-inner : (x y : ℕ → Shares Bool) (v : ℕ) (w : Wire) → is_share w �
 start-inner x y v (Share i) e = absurd (false≢true (sym e))
 start-inner x y v w e = refl
 
--- On inputs that agree on the need of probes that fit, the traces with a tape and with the shifted tape agree on the
+-- On inputs that agree on the need of probes that fit, what is carried with a tape and with the shifted tape agrees on the
 -- demanded shares and on the inner probes.
-pub traces_agree : GateKeeps → (c : Netlist) (N : ℕ) (P : List Place) (x y : ℕ → Shares Bool) (r : List Bool) → 2 ≤ N → AreGates c.inputs c.gates →
+pub carried_agree : GateKeeps → (c : Netlist) (N : ℕ) (P : List CircuitWire) (x y : ℕ → Shares Bool) (r : List Bool) → 2 ≤ N → AreGates c.inputs c.gates →
     All (Contains (names c N)) P → Fits c N P → AgreeOn c N (need_from P c.gates c.inputs) x y → length r ≡ draws c N →
-    TracesAgree N P c.gates c.inputs (value_count c) (expand bits c N x r) (expand bits c N y (shift_by c N x y P r))
-traces_agree keeps c N P x y r two are named fits agree long =
+    CarriedAgree N P c.gates c.inputs (value_count c) (expand bits c N x r) (expand bits c N y (shift_by c N x y P r))
+carried_agree keeps c N P x y r two are named fits agree long =
     keeps_from keeps N P c.gates c.inputs (start bits x) (start bits y) r two are (AreNamed-from_names c N P two named) fits long
     (record { shares = agree; inner = λ v w h k e. start-inner x y v w e })
 
--- where traces agree on these, each probe carries the same
-probe-same : (c : Netlist) (N : ℕ) (P : List Place) (t t' : Trace Bool) → 2 ≤ N → All (Contains (names c N)) P → TracesAgree N P c.gates c.inputs (value_count c) t t' →
+-- where what is carried agrees on these, each probe carries the same
+probe-same : (c : Netlist) (N : ℕ) (P : List CircuitWire) (t t' : Carried Bool) → 2 ≤ N → All (Contains (names c N)) P → CarriedAgree N P c.gates c.inputs (value_count c) t t' →
     (v : ℕ) (w : Wire) → Contains P (v, w) → t v w ≡ t' v w
 probe-same c N P t t' two named agree v w k = go w k (All-contains (IsNamedFrom N 0 (value_count c)) (names c N) (v, w) (names-within c N two) (All-contains (Contains (names c N)) P (v, w) named k))
   where
@@ -49,21 +51,22 @@ probe-same c N P t t' two named agree v w k = go w k (All-contains (IsNamedFrom 
     go (Share i) k h = agree.shares v i h.1 h.2 (need_from-probed P c.gates c.inputs v i (probed_shares-from_Contains P v i k))
     go w k h = agree.inner v w h.1 k refl
 
-map-same : {A B : Type 0} (f g : A → B) (xs : List A) → ((a : A) → Contains xs a → f a ≡ g a) → map f xs ≡ map g xs
+-- two functions that agree at the elements of a list make the same list
+pub map-same : {A B : Type 0} (f g : A → B) (xs : List A) → ((a : A) → Contains xs a → f a ≡ g a) → map f xs ≡ map g xs
 map-same f g [] h = refl
 map-same {B} f g (x ∷ xs) h = ap₂ (λ (b : B) (bs : List B). b ∷ bs) (h x (Contains-first x xs)) (map-same f g xs (λ a k. h a (Contains-later x xs a k)))
 
 -- so the probes see the same
-pub seen_by-shift_by : GateKeeps → (c : Netlist) (N : ℕ) (P : List Place) (x y : ℕ → Shares Bool) (r : List Bool) → 2 ≤ N → AreGates c.inputs c.gates →
+pub seen_by-shift_by : GateKeeps → (c : Netlist) (N : ℕ) (P : List CircuitWire) (x y : ℕ → Shares Bool) (r : List Bool) → 2 ≤ N → AreGates c.inputs c.gates →
     All (Contains (names c N)) P → Fits c N P → AgreeOn c N (need_from P c.gates c.inputs) x y → length r ≡ draws c N →
     seen_by c N x r P ≡ seen_by c N y (shift_by c N x y P r) P
 seen_by-shift_by keeps c N P x y r two are named fits agree long =
     map-same (λ p. expand bits c N x r p.0 p.1) (λ p. expand bits c N y (shift_by c N x y P r) p.0 p.1) P
     (λ p k. probe-same c N P (expand bits c N x r) (expand bits c N y (shift_by c N x y P r)) two named
-    (traces_agree keeps c N P x y r two are named fits agree long) p.0 p.1 k)
+    (carried_agree keeps c N P x y r two are named fits agree long) p.0 p.1 k)
 
 -- and over all tapes any number of what they see has the same sum
-pub sum_over_tapes-seen_by : GateKeeps → (c : Netlist) (N : ℕ) (P : List Place) (x y : ℕ → Shares Bool) → 2 ≤ N → AreGates c.inputs c.gates →
+pub sum_over_tapes-seen_by : GateKeeps → (c : Netlist) (N : ℕ) (P : List CircuitWire) (x y : ℕ → Shares Bool) → 2 ≤ N → AreGates c.inputs c.gates →
     All (Contains (names c N)) P → Fits c N P → AgreeOn c N (need_from P c.gates c.inputs) x y → (f : List Bool → ℕ) →
     sum_over_tapes (draws c N) (λ r. f (seen_by c N x r P)) ≡ sum_over_tapes (draws c N) (λ r. f (seen_by c N y r P))
 sum_over_tapes-seen_by keeps c N P x y two are named fits agree f =
@@ -107,7 +110,7 @@ shift_keeps keeps c N x y P r two are places fits agree long =
       seen-probes_at c N y (shift c N x y P r) P places
           ∙ sym (seen_by-shift_by keeps c N (probes_at c N P) x y r two are named fits agree long)
           ∙ sym (seen-probes_at c N x r P places),
-      λ v i h k d. sym ((traces_agree keeps c N (probes_at c N P) x y r two are named fits agree long).shares v i h k d),
+      λ v i h k d. sym ((carried_agree keeps c N (probes_at c N P) x y r two are named fits agree long).shares v i h k d),
     )
 
 pub fitting_is_simulated : GateKeeps → FittingIsSimulated

@@ -6,7 +6,7 @@ use Rattle.std.proofs.Math.Seq.{take-append_seam, drop-append_seam}
 use Rattle.mask_circuit.specs.declared.gates.Gate.{Gate}
 use Rattle.mask_circuit.specs.Ring.{bits}
 use Rattle.mask_circuit.specs.Wires.{gate_draws, gate_wire}
-use Rattle.mask_circuit.specs.Expansion.{Place, Trace, shares_of, put}
+use Rattle.mask_circuit.specs.Expansion.{CircuitWire, Carried, shares_of, put}
 use Rattle.mask_circuit.specs.Probing.{sum_over_tapes}
 use Rattle.mask_circuit.specs.Need.{inner_probes, need_from}
 use Rattle.mask_circuit.specs.Shift.{add_bits, gate_mask, shift_from}
@@ -28,26 +28,26 @@ pub draws_from-cons : (N : ℕ) (g : Gate) (gs : List Gate) → draws_from N (g 
 draws_from-cons N g gs = sum_by-cons (gate_draws N) g gs
 
 -- the first gate's mask
-abbrev pub mask_at : List Place → ℕ → Gate → List Gate → ℕ → Trace Bool → Trace Bool → List Bool
+abbrev pub mask_at : List CircuitWire → ℕ → Gate → List Gate → ℕ → Carried Bool → Carried Bool → List Bool
 mask_at P N g gs n t t' = gate_mask N g (inner_probes n P) (need_from P gs (suc n) n) (shares_of t) (shares_of t')
 
--- the trace with the first gate's wires
-abbrev pub trace_at : ℕ → Gate → ℕ → Trace Bool → List Bool → Trace Bool
-trace_at N g n t bs = put n (gate_wire bits N g (shares_of t) bs) t
+-- what is carried with the first gate's wires
+abbrev pub carried_at : ℕ → Gate → ℕ → Carried Bool → List Bool → Carried Bool
+carried_at N g n t bs = put n (gate_wire bits N g (shares_of t) bs) t
 
 -- the new tape where the first gate's bits are old and those of the others rest
-abbrev after_gate : List Place → ℕ → Gate → List Gate → ℕ → Trace Bool → Trace Bool → List Bool → List Bool → List Bool
+abbrev after_gate : List CircuitWire → ℕ → Gate → List Gate → ℕ → Carried Bool → Carried Bool → List Bool → List Bool → List Bool
 after_gate P N g gs n t t' old rest =
     let new = add_bits old (mask_at P N g gs n t t') in
-    new ++ shift_from P N gs (suc n) (trace_at N g n t old) (trace_at N g n t' new) rest
+    new ++ shift_from P N gs (suc n) (carried_at N g n t old) (carried_at N g n t' new) rest
 
-shift_from-cons : (P : List Place) (N : ℕ) (g : Gate) (gs : List Gate) (n : ℕ) (t t' : Trace Bool) (a b : List Bool) → length a ≡ gate_draws N g →
+shift_from-cons : (P : List CircuitWire) (N : ℕ) (g : Gate) (gs : List Gate) (n : ℕ) (t t' : Carried Bool) (a b : List Bool) → length a ≡ gate_draws N g →
     shift_from P N (g ∷ gs) n t t' (a ++ b) ≡ after_gate P N g gs n t t' a b
 shift_from-cons P N g gs n t t' a b e =
     ap₂ (after_gate P N g gs n t t') (take_front (gate_draws N g) a b e) (drop_front (gate_draws N g) a b e)
 
 -- the shift reorders the tapes: a sum over the shifted tapes is the sum over the tapes
-pub sum_over_tapes-shift_from : (P : List Place) (N : ℕ) (gs : List Gate) (n : ℕ) (t t' : Trace Bool) (f : List Bool → ℕ) →
+pub sum_over_tapes-shift_from : (P : List CircuitWire) (N : ℕ) (gs : List Gate) (n : ℕ) (t t' : Carried Bool) (f : List Bool → ℕ) →
     sum_over_tapes (draws_from N gs) (λ r. f (shift_from P N gs n t t' r)) ≡ sum_over_tapes (draws_from N gs) f
 sum_over_tapes-shift_from P N [] n t t' f = refl
 sum_over_tapes-shift_from P N (g ∷ gs) n t t' f =
@@ -58,7 +58,7 @@ sum_over_tapes-shift_from P N (g ∷ gs) n t t' f =
     let front : (a : List Bool) → length a ≡ w → sum_over_tapes (draws_from N gs) (λ b. shifted (a ++ b)) ≡ rest_of (add_bits a m)
     = λ a e.
     sum_over_tapes-same (draws_from N gs) _ _ (λ b _. ap f (shift_from-cons P N g gs n t t' a b e))
-    ∙ sum_over_tapes-shift_from P N gs (suc n) (trace_at N g n t a) (trace_at N g n t' (add_bits a m)) (λ b. f (add_bits a m ++ b)) in
+    ∙ sum_over_tapes-shift_from P N gs (suc n) (carried_at N g n t a) (carried_at N g n t' (add_bits a m)) (λ b. f (add_bits a m ++ b)) in
     ap (λ (k : ℕ). sum_over_tapes k shifted) (draws_from-cons N g gs)
     ∙ sum_over_tapes-add w (draws_from N gs) shifted
     ∙ sum_over_tapes-same w _ _ front
@@ -70,7 +70,7 @@ sum_over_tapes-shift_from P N (g ∷ gs) n t t' f =
 length-cut : (w : ℕ) (r : List Bool) → length (take w r) + length (drop w r) ≡ length r
 length-cut w r = sym (length-append (take w r) (drop w r)) ∙ ap length (take-append-drop w r)
 
-pub length-shift_from : (P : List Place) (N : ℕ) (gs : List Gate) (n : ℕ) (t t' : Trace Bool) (r : List Bool) → length (shift_from P N gs n t t' r) ≡ length r
+pub length-shift_from : (P : List CircuitWire) (N : ℕ) (gs : List Gate) (n : ℕ) (t t' : Carried Bool) (r : List Bool) → length (shift_from P N gs n t t' r) ≡ length r
 length-shift_from P N [] n t t' r = refl
 length-shift_from P N (g ∷ gs) n t t' r =
     let old = take (gate_draws N g) r in
@@ -78,7 +78,7 @@ length-shift_from P N (g ∷ gs) n t t' r =
     length-append new _
     ∙ ap₂ (λ (a b : ℕ). a + b)
     (length-add_bits old (mask_at P N g gs n t t'))
-    (length-shift_from P N gs (suc n) (trace_at N g n t old) (trace_at N g n t' new) (drop (gate_draws N g) r))
+    (length-shift_from P N gs (suc n) (carried_at N g n t old) (carried_at N g n t' new) (drop (gate_draws N g) r))
     ∙ length-cut (gate_draws N g) r
 
 -- the first gate's bits of a tape, and the bits left for the others
@@ -89,7 +89,7 @@ front_of_tape N g gs r long =
     (length-take-le (gate_draws N g) r (omega arith), omega (arith, length-drop (gate_draws N g) r))
 
 -- shifting back gives the first tape
-pub shift_from-back : MaskIsSymmetric → (P : List Place) (N : ℕ) (gs : List Gate) (n : ℕ) (t t' : Trace Bool) (r : List Bool) → length r ≡ draws_from N gs →
+pub shift_from-back : MaskIsSymmetric → (P : List CircuitWire) (N : ℕ) (gs : List Gate) (n : ℕ) (t t' : Carried Bool) (r : List Bool) → length r ≡ draws_from N gs →
     shift_from P N gs n t' t (shift_from P N gs n t t' r) ≡ r
 shift_from-back symmetric P N [] n t t' r long = refl
 shift_from-back symmetric P N (g ∷ gs) n t t' r long =
@@ -97,11 +97,11 @@ shift_from-back symmetric P N (g ∷ gs) n t t' r long =
     let old = take w r in
     let m = mask_at P N g gs n t t' in
     let new = add_bits old m in
-    let later = shift_from P N gs (suc n) (trace_at N g n t old) (trace_at N g n t' new) (drop w r) in
+    let later = shift_from P N gs (suc n) (carried_at N g n t old) (carried_at N g n t' new) (drop w r) in
     let parts = front_of_tape N g gs r long in
     let back : add_bits new (mask_at P N g gs n t' t) ≡ old
     = ap (add_bits new) (symmetric N g (inner_probes n P) (need_from P gs (suc n) n) (shares_of t') (shares_of t)) ∙ add_bits-twice old m in
     shift_from-cons P N g gs n t' t new later (length-add_bits old m ∙ parts.0)
-    ∙ ap (λ (o : List Bool). o ++ shift_from P N gs (suc n) (trace_at N g n t' new) (trace_at N g n t o) later) back
-    ∙ ap (λ (z : List Bool). old ++ z) (shift_from-back symmetric P N gs (suc n) (trace_at N g n t old) (trace_at N g n t' new) (drop w r) parts.1)
+    ∙ ap (λ (o : List Bool). o ++ shift_from P N gs (suc n) (carried_at N g n t' new) (carried_at N g n t o) later) back
+    ∙ ap (λ (z : List Bool). old ++ z) (shift_from-back symmetric P N gs (suc n) (carried_at N g n t old) (carried_at N g n t' new) (drop w r) parts.1)
     ∙ take-append-drop w r

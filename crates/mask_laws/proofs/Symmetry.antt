@@ -3,7 +3,9 @@ use Rattle.std.proofs.Common.{◌≡◌, ℕ, pred, Bool, not, ◌&&◌, false, 
 use Rattle.mask_circuit.specs.declared.gates.Gate.TheVariants.{Zero, One, Xor, Not, And, Ref}
 use Rattle.mask_circuit.specs.Value.{xor}
 use Rattle.mask_circuit.specs.Ring.{bits}
-use Rattle.mask_circuit.specs.Wires.{Wire, Fresh, Left, Shares, pairs, row_sum}
+use Rattle.mask_circuit.specs.declared.gates.Wire.{Wire}
+use Rattle.mask_circuit.specs.declared.gates.Wire.TheVariants.{Fresh, Left}
+use Rattle.mask_circuit.specs.Wires.{Shares, pairs, row_sum}
 use Rattle.mask_circuit.specs.Need.{ShareSet, product_rows, refresh_need}
 use Rattle.mask_circuit.specs.Shift.{Sides, product_change, is_probed, partner, flipped, sides_of}
 use Rattle.mask_laws.specs.Gadgets.{MaskIsSymmetric}

@@ -8,12 +8,14 @@ use Rattle.mask_circuit.specs.declared.gates.Gate.TheVariants.{Zero, One, Xor, N
 use Rattle.mask_circuit.specs.Netlist.{AreGates, OperandsBelow, value_count}
 use Rattle.mask_circuit.specs.Value.{xor, value_at, gate_value, values_from, plain_values}
 use Rattle.mask_circuit.specs.Ring.{bits}
-use Rattle.mask_circuit.specs.Wires.{Wire, Share, Shares, each, pairs, fresh_of, cross, product_wire, fresh_between, refresh_wire, gate_draws, gate_wire}
-use Rattle.mask_circuit.specs.Expansion.{Trace, shares_of, put, start, run, expand}
+use Rattle.mask_circuit.specs.declared.gates.Wire.{Wire}
+use Rattle.mask_circuit.specs.declared.gates.Wire.TheVariants.{Share}
+use Rattle.mask_circuit.specs.Wires.{Shares, each, pairs, fresh_of, cross, product_wire, fresh_between, refresh_wire, gate_draws, gate_wire}
+use Rattle.mask_circuit.specs.Expansion.{Carried, shares_of, put, start, run, expand}
 use Rattle.mask_laws.specs.Sharing.{xor_all, unshared_inputs, ValuesUnmask, OutputsUnmask}
 use Rattle.mask_laws.proofs.Bits.{xor-false, xor_self, xor_comm}
 use Rattle.mask_laws.proofs.BitSums.{total, total-xor, total_same, total_none, xor_all-each, row_sum-total, square}
-use Rattle.mask_laws.proofs.Traces.{put-other}
+use Rattle.mask_laws.proofs.Carrying.{put-own, put-other}
 use Rattle.mask_circuit.proofs.Places.{length-each, slice_get-each}
 
 -- GATES
@@ -68,11 +70,11 @@ refresh_total a r n =
         ∙ square (off (fresh_between r)) (λ i. false) (λ i. false) (off_diagonal (fresh_between r)) pair (suc n) ∙ rw (total_none (suc n)) refl
 
 -- the shares of values below n stand for these values
-abbrev Stand : ℕ → ℕ → Trace Bool → List Bool → Type 0
+abbrev Stand : ℕ → ℕ → Carried Bool → List Bool → Type 0
 Stand N n t values = (u : ℕ) → u < n → total (shares_of t u) N ≡ value_at values u
 
 -- the shares of a gate sum to its value on the values before it
-gate_total : (N : ℕ) (g : Gate) (n : ℕ) (t : Trace Bool) (values r : List Bool) → 1 ≤ N → OperandsBelow n g → Stand N n t values →
+gate_total : (N : ℕ) (g : Gate) (n : ℕ) (t : Carried Bool) (values r : List Bool) → 1 ≤ N → OperandsBelow n g → Stand N n t values →
     total (λ i. gate_wire bits N g (shares_of t) r (Share i)) N ≡ gate_value g values
 gate_total zero g n t values r one below stand = absurd (omega arith)
 gate_total (suc m) Zero n t values r one below stand = total_none (suc m)
@@ -94,22 +96,18 @@ gate_total (suc m) (Ref u) n t values r one below stand =
 
 -- WHOLE CIRCUITS
 
--- value n has the new wires
-put_same : {X : Type 0} (n : ℕ) (wires : Wire → X) (t : Trace X) (u : ℕ) (w : Wire) → u ≡ n → put n wires t u w ≡ wires w
-put_same n wires t u w e = rw (eq-eqb u n e) refl
-
 -- one more value
-Stand_put : (N n : ℕ) (wires : Wire → Bool) (t : Trace Bool) (values : List Bool) (b : Bool) → length values ≡ n → Stand N n t values →
+Stand_put : (N n : ℕ) (wires : Wire → Bool) (t : Carried Bool) (values : List Bool) (b : Bool) → length values ≡ n → Stand N n t values →
     total (λ i. wires (Share i)) N ≡ b → Stand N (suc n) (put n wires t) (values ++ b ∷ [])
 Stand_put N n wires t values b size stand new u lt = go (cases_order u n)
   where
     go : (u ≡ n) ⊎ ((u < n) ⊎ (n < u)) → total (shares_of (put n wires t) u) N ≡ value_at (values ++ b ∷ []) u
-    go (inl e) = total_same _ _ N (λ i l. put_same n wires t u (Share i) e) ∙ (new ∙ sym (get_or_push values b false u (omega arith)))
+    go (inl e) = total_same _ _ N (λ i l. put-own n u (Share i) wires t e) ∙ (new ∙ sym (get_or_push values b false u (omega arith)))
     go (inr (inl l)) = total_same _ _ N (λ i k. put-other n u (Share i) wires t (λ e. omega arith)) ∙ (stand u l ∙ sym (get_or_append_left values (b ∷ []) false u (omega arith)))
     go (inr (inr g)) = absurd (omega arith)
 
 -- so do those of all values after these gates
-run_stands : (N : ℕ) (gs : List Gate) (n : ℕ) (t : Trace Bool) (values r : List Bool) → 1 ≤ N → AreGates n gs → length values ≡ n →
+run_stands : (N : ℕ) (gs : List Gate) (n : ℕ) (t : Carried Bool) (values r : List Bool) → 1 ≤ N → AreGates n gs → length values ≡ n →
     Stand N n t values → Stand N (n + length gs) (run bits N gs n t r) (values_from gs values)
 run_stands N [] n t values r one are size stand u lt = stand u (omega arith)
 run_stands N (g ∷ gs) n t values r one are size stand u lt =

@@ -5,8 +5,10 @@ use Rattle.mask_circuit.specs.declared.gates.Gate.{Gate}
 use Rattle.mask_circuit.specs.declared.gates.Gate.TheVariants.{Zero, One, Xor, Not, And, Ref}
 use Rattle.mask_circuit.specs.Netlist.{Netlist, AreGates, value_count}
 use Rattle.mask_circuit.specs.Ring.{bits}
-use Rattle.mask_circuit.specs.Wires.{Wire, Share, Shares}
-use Rattle.mask_circuit.specs.Expansion.{Place, draws, expand, wire_count}
+use Rattle.mask_circuit.specs.declared.gates.Wire.{Wire}
+use Rattle.mask_circuit.specs.declared.gates.Wire.TheVariants.{Share}
+use Rattle.mask_circuit.specs.Wires.{Shares}
+use Rattle.mask_circuit.specs.Expansion.{CircuitWire, draws, expand, wire_count}
 use Rattle.mask_circuit.specs.Probing.{AgreeOn, HasAtMost, IsNI, IsSimulated, seen, size, sum_over_tapes}
 use Rattle.mask_circuit.specs.Need.{ShareSet, inner_probes, need, need_from, probes_at}
 use Rattle.mask_circuit.specs.Acceptance.{IsAccepted, Reaches}
@@ -23,17 +25,17 @@ FitsAt N (And u v) Q O = FitsGate N Q O
 FitsAt N (Ref u) Q O = FitsGate N Q O
 
 -- so at each of these gates, the first of which makes value n
-abbrev pub FitsFrom : ℕ → List Place → List Gate → ℕ → Type 0
+abbrev pub FitsFrom : ℕ → List CircuitWire → List Gate → ℕ → Type 0
 FitsFrom N P [] n = Unit {0}
 FitsFrom N P (g ∷ gs) n = FitsAt N g (inner_probes n P) (need_from P gs (suc n) n) × FitsFrom N P gs (suc n)
 
 -- The probes on wires of these names fit the circuit.
-abbrev pub Fits : Netlist → ℕ → List Place → Type 0
+abbrev pub Fits : Netlist → ℕ → List CircuitWire → Type 0
 Fits c N P = FitsFrom N P c.gates c.inputs
 
 -- P has numbers of wires
-abbrev pub ArePlaces : Netlist → ℕ → List ℕ → Type 0
-ArePlaces c N P = All (λ p. p < wire_count c N) P
+abbrev pub AreWireNumbers : Netlist → ℕ → List ℕ → Type 0
+AreWireNumbers c N P = All (λ p. p < wire_count c N) P
 
 -- The shift is as long as the tape, and shifting back gives the tape, whatever the probes.
 abbrev pub ShiftReturns : Type 0
@@ -48,14 +50,14 @@ ShiftReorders = (c : Netlist) (N : ℕ) (x y : ℕ → Shares Bool) (P : List �
 -- On inputs that agree on the need of probes that fit, the probes see with the shifted tape what they saw with the
 -- tape, and each demanded share of each value stays the same.
 abbrev pub ShiftKeeps : Type 0
-ShiftKeeps = (c : Netlist) (N : ℕ) (x y : ℕ → Shares Bool) (P : List ℕ) (r : List Bool) → 2 ≤ N → AreGates c.inputs c.gates → ArePlaces c N P →
+ShiftKeeps = (c : Netlist) (N : ℕ) (x y : ℕ → Shares Bool) (P : List ℕ) (r : List Bool) → 2 ≤ N → AreGates c.inputs c.gates → AreWireNumbers c N P →
     Fits c N (probes_at c N P) → AgreeOn c N (need c N P) x y → length r ≡ draws c N →
     (seen c N y (shift c N x y P r) P ≡ seen c N x r P)
     × ((v i : ℕ) → v < value_count c → i < N → need c N P v i ≡ true → expand bits c N y (shift c N x y P r) v (Share i) ≡ expand bits c N x r v (Share i))
 
 -- Probes that fit are simulated from their need.
 abbrev pub FittingIsSimulated : Type 0
-FittingIsSimulated = (c : Netlist) (N : ℕ) (P : List ℕ) → 2 ≤ N → AreGates c.inputs c.gates → ArePlaces c N P → Fits c N (probes_at c N P) →
+FittingIsSimulated = (c : Netlist) (N : ℕ) (P : List ℕ) → 2 ≤ N → AreGates c.inputs c.gates → AreWireNumbers c N P → Fits c N (probes_at c N P) →
     IsSimulated c N P (need c N P)
 
 -- In an accepted circuit the inner probes of each input, product and refresh and the demanded shares of its value are
@@ -71,7 +73,7 @@ AcceptedFits = (c : Netlist) (N : ℕ) (P : List ℕ) → AreGates c.inputs c.ga
 -- Fewer probes than shares of an accepted circuit are simulated from their need, which has at most as many shares of
 -- each input as there are probes.
 abbrev pub AcceptedIsSimulated : Type 0
-AcceptedIsSimulated = (c : Netlist) (N : ℕ) (P : List ℕ) → 2 ≤ N → AreGates c.inputs c.gates → IsAccepted c → ArePlaces c N P → length P < N →
+AcceptedIsSimulated = (c : Netlist) (N : ℕ) (P : List ℕ) → 2 ≤ N → AreGates c.inputs c.gates → IsAccepted c → AreWireNumbers c N P → length P < N →
     HasAtMost c N (need c N P) (length P) × IsSimulated c N P (need c N P)
 
 -- An accepted circuit is non-interfering.

@@ -3,7 +3,7 @@ use Rattle.std.specs.Prelude.{◌≡◌, ℕ, suc, ◌↔◌, Bool, true, false,
 use Rattle.std.specs.declared.option.Option.{Option}
 use Rattle.mask_circuit.specs.declared.gates.Gate.{Gate}
 use Rattle.mask_circuit.specs.declared.gates.Gate.TheVariants.{Zero, One, Xor, Not, And, Ref}
-use Rattle.mask_circuit.specs.Netlist.{Netlist, IsCircuit}
+use Rattle.mask_circuit.specs.Netlist.{Netlist, IsWellFormed}
 use Rattle.mask_circuit.specs.Acceptance.{Reaches, IsAccepted, IsClash, IsTidy}
 use Rattle.mask_circuit.specs.Shift.{least}
 
@@ -66,9 +66,9 @@ ClashRefutes = (c : Netlist) (p s : ℕ) → IsClash c p s → IsAccepted c → 
 
 -- The table holds just what reaches what.
 abbrev pub TableReaches : Type 0
-TableReaches = (c : Netlist) → IsCircuit c → (u s : ℕ) → (reach c u s ≡ true) ↔ Reaches c u s
+TableReaches = (c : Netlist) → IsWellFormed c → (u s : ℕ) → (reach c u s ≡ true) ↔ Reaches c u s
 
 -- The computed clash is None just where the circuit is accepted, and else its clash.
 abbrev pub ClashDecides : Type 0
-ClashDecides = (c : Netlist) → IsCircuit c →
+ClashDecides = (c : Netlist) → IsWellFormed c →
     ((clash c ≡ None) ↔ IsAccepted c) × ((p s : ℕ) → (clash c ≡ Some (p, s)) ↔ IsClash c p s)

@@ -1,9 +1,13 @@
 -- What holds of a single gate with inner probes Q and demanded output shares O.
-use Rattle.std.specs.Prelude.{◌≡◌, ℕ, ◌+◌, ◌<◌, ◌≤◌, ◌⊎◌, Bool, true, false, List, length, All, Contains}
+use Rattle.std.specs.Prelude.{◌≡◌, ℕ, ◌+◌, ◌<◌, ◌≤◌, ◌⊎◌, Bool, true, false, List, [], ◌∷◌, length, All, Contains}
 use Rattle.mask_circuit.specs.declared.gates.Gate.{Gate}
+use Rattle.mask_circuit.specs.declared.gates.Gate.TheVariants.{And, Ref}
+use Rattle.mask_circuit.specs.Netlist.{Netlist}
 use Rattle.mask_circuit.specs.Ring.{bits}
-use Rattle.mask_circuit.specs.Wires.{Wire, Share, Shares, gate_names, gate_draws, gate_wire}
-use Rattle.mask_circuit.specs.Probing.{size}
+use Rattle.mask_circuit.specs.declared.gates.Wire.{Wire}
+use Rattle.mask_circuit.specs.declared.gates.Wire.TheVariants.{Share}
+use Rattle.mask_circuit.specs.Wires.{Shares, gate_names, gate_draws, gate_wire}
+use Rattle.mask_circuit.specs.Probing.{size, IsSNI}
 use Rattle.mask_circuit.specs.Need.{ShareSet, is_share, demand}
 use Rattle.mask_circuit.specs.Shift.{gate_mask, add_bits}
 
@@ -34,3 +38,14 @@ GateKeeps = (N : ℕ) (g : Gate) (Q : List Wire) (O : ShareSet) (s s' : ℕ → 
 abbrev pub MaskIsSymmetric : Type 0
 MaskIsSymmetric = (N : ℕ) (g : Gate) (Q : List Wire) (O : ShareSet) (s s' : ℕ → Shares Bool) →
     gate_mask N g Q O s s' ≡ gate_mask N g Q O s' s
+
+-- a circuit of one product, which is its output, and one of one refresh
+abbrev pub lone_product : Netlist
+lone_product = record { inputs = 2; gates = And 0 1 ∷ []; outputs = 2 ∷ [] }
+
+abbrev pub lone_refresh : Netlist
+lone_refresh = record { inputs = 1; gates = Ref 0 ∷ []; outputs = 1 ∷ [] }
+
+-- Product and refresh are strongly non-interfering.
+abbrev pub GadgetsAreSNI : Type 0
+GadgetsAreSNI = (N : ℕ) → 2 ≤ N → IsSNI lone_product N × IsSNI lone_refresh N

@@ -1,9 +1,12 @@
 pub mod Circuits
 pub mod Clashes
 pub mod Gadgets
+pub mod Masks
 pub mod Names
 pub mod Needs
 pub mod Numbering
+pub mod Privacy
+pub mod Refutations
 pub mod Runs
 pub mod Sharing
 pub mod Strong

@@ -2,7 +2,10 @@
 use Rattle.std.specs.Prelude.{◌≡◌, ℕ, zero, suc, ◌+◌, ◌-◌, ◌*◌, ◌/◌, ◌<◌, ◌≤◌, ◌≢◌, ◌↔◌, false, length, Contains, slice_get, Some}
 use Rattle.mask_circuit.specs.declared.gates.Gate.{Gate}
 use Rattle.mask_circuit.specs.declared.gates.Gate.TheVariants.{Zero, One, Xor, Not, And, Ref}
-use Rattle.mask_circuit.specs.Wires.{Wire, Share, Product, Fresh, Left, Right, Partial, pairs, other, is_last, row_wire, share_names, product_names, refresh_names, gate_names}
+use Rattle.mask_circuit.specs.declared.gates.Wire.{Wire}
+use Rattle.mask_circuit.specs.declared.gates.Wire.TheVariants.{Share, Product, Fresh, Left, Right, Partial}
+use Rattle.mask_circuit.specs.Wires.{pairs, other, is_last, row_wire, share_names, product_names, refresh_names, gate_names}
+pub use Rattle.mask_circuit.specs.Pairs.{IsPair, pairs_before, pair_number, pair_count}
 
 -- a wire of a gate on n shares that acts share by share
 abbrev pub IsShareName : ℕ → Wire → Type 0
@@ -12,10 +15,6 @@ IsShareName n (Fresh i j) = ⊥
 IsShareName n (Left i j) = ⊥
 IsShareName n (Right i j) = ⊥
 IsShareName n (Partial i k) = ⊥
-
--- i and j are two shares of n, the lower one first
-abbrev pub IsPair : ℕ → ℕ → ℕ → Type 0
-IsPair n i j = (i < j) × (j < n)
 
 -- row i has another column k, and it isn't the last
 abbrev pub IsInnerColumn : ℕ → ℕ → ℕ → Type 0
@@ -51,19 +50,6 @@ IsGateName n (Ref u) = IsRefreshName n
 -- The list of a gate's names has just the names of these shapes.
 abbrev pub GateHasNames : Type 0
 GateHasNames = (N : ℕ) (g : Gate) (w : Wire) → 2 ≤ N → Contains (gate_names N g) w ↔ IsGateName N g w
-
--- how many pairs of n shares stand before those of row i
-abbrev pub pairs_before : ℕ → ℕ → ℕ
-pairs_before n zero = 0
-pairs_before n (suc i) = pairs_before n i + (n - suc i)
-
--- the number of the pair (i, j) among the pairs of n shares
-abbrev pub pair_number : ℕ → ℕ → ℕ → ℕ
-pair_number n i j = pairs_before n i + (j - suc i)
-
--- how many pairs n shares have
-abbrev pub pair_count : ℕ → ℕ
-pair_count n = n * (n - 1) / 2
 
 -- where the pairs of n shares stand in their list, and how many there are
 pub record PairsInOrder (n : ℕ) : Type 0 where

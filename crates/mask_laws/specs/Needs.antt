@@ -1,6 +1,6 @@
 -- How much the probes on a gate demand of its operands.
 use Rattle.std.specs.Prelude.{ℕ, ◌≤◌, List, length}
-use Rattle.mask_circuit.specs.Wires.{Wire}
+use Rattle.mask_circuit.specs.declared.gates.Wire.{Wire}
 use Rattle.mask_circuit.specs.Probing.{size}
 use Rattle.mask_circuit.specs.Need.{left_need, right_need, refresh_need}
 

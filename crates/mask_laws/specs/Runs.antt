@@ -2,12 +2,13 @@
 -- observer sees of the wires of all calls together.
 use Rattle.std.specs.Prelude.{◌≡◌, ℕ, suc, ◌-◌, ◌<◌, ◌≤◌, Bool, true, false, cond, not, ◌&&◌, ◌||◌, ◌==◌, nat_lt, List, [], ◌∷◌, ◌++◌, map, length, take, drop, All, sum_by, slice_index, slice_index_or}
 use Rattle.std.specs.List.{filter, flat_map, list_any}
-use Rattle.mask_circuit.specs.Netlist.{Netlist, IsCircuit}
+use Rattle.mask_circuit.specs.Netlist.{Netlist, IsWellFormed}
 use Rattle.mask_circuit.specs.Value.{xor}
 use Rattle.mask_circuit.specs.Ring.{bits}
 use Rattle.mask_circuit.specs.Wires.{Shares, each, on_first}
 use Rattle.mask_circuit.specs.Expansion.{shares_of, expand, draws, wire_count, wires}
 use Rattle.mask_circuit.specs.Probing.{same_bits, sum_over_tapes, ShareSets, size}
+use Rattle.mask_circuit.specs.Privacy.{sum_over_sharings}
 use Rattle.mask_circuit.specs.Need.{ShareSet, need}
 use Rattle.mask_circuit.specs.Acceptance.{IsStrong, output_at}
 
@@ -15,19 +16,19 @@ use Rattle.mask_circuit.specs.Acceptance.{IsStrong, output_at}
 
 -- Where the shares of an input come from: a public bit, a variable, or an output of an earlier call, by the number of
 -- the call and the place of the output.
-pub data Source : Type 0 where
-  Public : Bool → Source
-  Variable : ℕ → Source
-  Output : ℕ → ℕ → Source
+pub data Origin : Type 0 where
+  Public : Bool → Origin
+  Variable : ℕ → Origin
+  Output : ℕ → ℕ → Origin
 
--- A circuit, and the source of each of its inputs.
+-- A circuit, and the origin of each of its inputs.
 pub record Call : Type 0 where
   pub circuit : Netlist
-  pub sources : List Source
+  pub origins : List Origin
 
--- the source of input v
-abbrev pub source_at : Call → ℕ → Source
-source_at call v = slice_index_or call.sources v (Public false)
+-- the origin of input v
+abbrev pub origin_at : Call → ℕ → Origin
+origin_at call v = slice_index_or call.origins v (Public false)
 
 -- The shares of the outputs of all calls so far, by call and place.
 abbrev pub Outputs : Type 0
@@ -37,15 +38,15 @@ Outputs = ℕ → ℕ → Shares Bool
 abbrev pub no_outputs : Outputs
 no_outputs j k i = false
 
--- the shares of a source, where x has the variables: a public bit stands on share 0
-abbrev pub source_shares : (ℕ → Shares Bool) → Outputs → Source → Shares Bool
-source_shares x outputs (Public b) = on_first bits b
-source_shares x outputs (Variable v) = x v
-source_shares x outputs (Output j k) = outputs j k
+-- the shares of an origin, where x has the variables: a public bit stands on share 0
+abbrev pub origin_shares : (ℕ → Shares Bool) → Outputs → Origin → Shares Bool
+origin_shares x outputs (Public b) = on_first bits b
+origin_shares x outputs (Variable v) = x v
+origin_shares x outputs (Output j k) = outputs j k
 
 -- the shares of the inputs of a call
-abbrev pub input_shares : (ℕ → Shares Bool) → Outputs → Call → ℕ → Shares Bool
-input_shares x outputs call v = source_shares x outputs (source_at call v)
+abbrev pub call_inputs : (ℕ → Shares Bool) → Outputs → Call → ℕ → Shares Bool
+call_inputs x outputs call v = origin_shares x outputs (origin_at call v)
 
 -- how many fresh bits a call draws, and how many wires it has
 abbrev pub call_draws : ℕ → Call → ℕ
@@ -77,7 +78,7 @@ with_outputs N j e outputs i k = cond (i == j) (shares_of (expand bits e.circuit
 abbrev pub evaluations_from : List Call → ℕ → ℕ → (ℕ → Shares Bool) → Outputs → List Bool → List Evaluation
 evaluations_from [] N j x outputs r = []
 evaluations_from (call ∷ calls) N j x outputs r =
-    let own = evaluation call (input_shares x outputs call) (take (call_draws N call) r) in
+    let own = evaluation call (call_inputs x outputs call) (take (call_draws N call) r) in
     own ∷ evaluations_from calls N (suc j) x (with_outputs N j own outputs) (drop (call_draws N call) r)
 
 -- the evaluations of a run on the variables x and the tape r
@@ -105,26 +106,36 @@ abbrev pub IsRunSimulated : List Call → ℕ → List ℕ → ShareSets → Typ
 IsRunSimulated calls N P I = (x y : ℕ → Shares Bool) →
     ((v i : ℕ) → i < N → I v i ≡ true → x v i ≡ y v i) → (v : List Bool) → run_hits calls N x P v ≡ run_hits calls N y P v
 
+-- how many sharings of the bits x of the variables, each with all tapes, show just the bits v on the wires P
+abbrev pub private_run_hits : List Call → ℕ → List Bool → List ℕ → List Bool → ℕ
+private_run_hits calls N x P v = sum_over_sharings N x (λ shares. run_hits calls N shares P v)
+
+-- Privacy of a run: what any t of its wires show, t at most N - 1, has over all sharings and tapes the same distribution
+-- for any two lists of bits of the variables. Public bits are part of the calls.
+abbrev pub IsPrivateRun : List Call → ℕ → Type 0
+IsPrivateRun calls N = (P : List ℕ) → length P < N → (x y : List Bool) → length x ≡ length y →
+    (v : List Bool) → private_run_hits calls N x P v ≡ private_run_hits calls N y P v
+
 -- STRONG RUNS
 
-abbrev pub IsPublic : Source → Type 0
+abbrev pub IsPublic : Origin → Type 0
 IsPublic (Public b) = Unit {0}
 IsPublic (Variable v) = ⊥
 IsPublic (Output j k) = ⊥
 
--- a source stands before a call, where the earlier calls have so many outputs
-abbrev pub IsThere : List ℕ → Source → Type 0
+-- an origin stands before a call, where the earlier calls have so many outputs
+abbrev pub IsThere : List ℕ → Origin → Type 0
 IsThere counts (Public b) = Unit {0}
 IsThere counts (Variable v) = Unit {0}
 IsThere counts (Output j k) = (j < length counts) × (k < slice_index counts j)
 
--- a call of a strong circuit, whose sources stand and of which none is taken twice unless it is public
+-- a call of a strong circuit, whose origins stand and of which none is taken twice unless it is public
 pub record IsStrongCall (counts : List ℕ) (call : Call) : Type 0 where
-  pub circuit : IsCircuit call.circuit
+  pub formed : IsWellFormed call.circuit
   pub strong : IsStrong call.circuit
-  pub sources : length call.sources ≡ call.circuit.inputs
-  pub there : All (IsThere counts) call.sources
-  pub once : (u v : ℕ) → u < v → v < length call.sources → source_at call u ≡ source_at call v → IsPublic (source_at call u)
+  pub origins : length call.origins ≡ call.circuit.inputs
+  pub there : All (IsThere counts) call.origins
+  pub once : (u v : ℕ) → u < v → v < length call.origins → origin_at call u ≡ origin_at call v → IsPublic (origin_at call u)
 
 abbrev pub AreStrongCalls : List ℕ → List Call → Type 0
 AreStrongCalls counts [] = Unit {0}
@@ -144,21 +155,21 @@ places_within n P = filter (λ p. nat_lt p n) P
 abbrev pub places_behind : ℕ → List ℕ → List ℕ
 places_behind n P = map (λ p. p - n) (filter (λ p. not (nat_lt p n)) P)
 
-abbrev pub same_source : Source → Source → Bool
-same_source (Public a) (Public b) = not (xor a b)
-same_source (Variable u) (Variable v) = u == v
-same_source (Output i k) (Output j l) = i == j && k == l
-same_source (Public _) _ = false
-same_source (Variable _) _ = false
-same_source (Output _ _) _ = false
+abbrev pub same_origin : Origin → Origin → Bool
+same_origin (Public a) (Public b) = not (xor a b)
+same_origin (Variable u) (Variable v) = u == v
+same_origin (Output i k) (Output j l) = i == j && k == l
+same_origin (Public _) _ = false
+same_origin (Variable _) _ = false
+same_origin (Output _ _) _ = false
 
--- the shares that a call demands of a source, where I has the need of its inputs
-abbrev pub demanded_by : Call → ShareSets → Source → ShareSet
-demanded_by call I s i = list_any (λ v. same_source (source_at call v) s && I v i) (each (λ v. v) call.circuit.inputs)
+-- the shares that a call demands of an origin, where I has the need of its inputs
+abbrev pub demanded_by : Call → ShareSets → Origin → ShareSet
+demanded_by call I s i = list_any (λ v. same_origin (origin_at call v) s && I v i) (each (λ v. v) call.circuit.inputs)
 
--- The shares of each source that the probes of these calls need, each those on its own wires. What later calls demand of
+-- The shares of each origin that the probes of these calls need, each those on its own wires. What later calls demand of
 -- an output adds nothing, since the output is a refresh.
-abbrev pub demanded : List Call → ℕ → List ℕ → Source → ShareSet
+abbrev pub demanded : List Call → ℕ → List ℕ → Origin → ShareSet
 demanded [] N P s i = false
 demanded (call ∷ calls) N P s i =
     demanded_by call (need call.circuit N (places_within (call_wires N call) P)) s i

@@ -1,6 +1,6 @@
 -- What shares stand for: the sum of the bits, which is the bit that was shared.
 use Rattle.std.specs.Prelude.{◌≡◌, ℕ, ◌<◌, ◌≤◌, Bool, false, List, [], ◌∷◌, map}
-use Rattle.mask_circuit.specs.Netlist.{Netlist, IsCircuit, value_count}
+use Rattle.mask_circuit.specs.Netlist.{Netlist, IsWellFormed, value_count}
 use Rattle.mask_circuit.specs.Value.{xor, value_at, plain_values, plain}
 use Rattle.mask_circuit.specs.Ring.{bits}
 use Rattle.mask_circuit.specs.Wires.{Shares, each}
@@ -21,11 +21,11 @@ unshared_inputs c N x = each (λ v. unshared N (x v)) c.inputs
 
 -- The shares of each value stand for its plain value, whatever the tape ..
 abbrev pub ValuesUnmask : Type 0
-ValuesUnmask = (c : Netlist) (N : ℕ) (x : ℕ → Shares Bool) (r : List Bool) → IsCircuit c → 1 ≤ N →
+ValuesUnmask = (c : Netlist) (N : ℕ) (x : ℕ → Shares Bool) (r : List Bool) → IsWellFormed c → 1 ≤ N →
     (u : ℕ) → u < value_count c →
     unshared N (shares_of (expand bits c N x r) u) ≡ value_at (plain_values c (unshared_inputs c N x)) u
 
 -- .. and so do those of each output.
 abbrev pub OutputsUnmask : Type 0
-OutputsUnmask = (c : Netlist) (N : ℕ) (x : ℕ → Shares Bool) (r : List Bool) → IsCircuit c → 1 ≤ N →
+OutputsUnmask = (c : Netlist) (N : ℕ) (x : ℕ → Shares Bool) (r : List Bool) → IsWellFormed c → 1 ≤ N →
     map xor_all (outs bits c N x r) ≡ plain c (unshared_inputs c N x)

@@ -1,7 +1,7 @@
 //! Laws that lead from the definitions of masking to plain values, to what is computed of acceptance, and to places.
 
 ghost use Rattle.mask_laws.specs.Clashes.{TidyIsAccepted, ClashIsUnique, ClashRefutes, ClashDecides, TableReaches};
-ghost use Rattle.mask_laws.specs.Numbering.{WiresInOrder, WiresAreCounted, SharesHavePlaces};
+ghost use Rattle.mask_laws.specs.Numbering.{WiresInOrder, WiresAreCounted, SharesHavePlaces, WiresAreGates};
 ghost use Rattle.mask_laws.specs.Sharing.{ValuesUnmask, OutputsUnmask};
 
 /// The shares of each value of a circuit sum to its plain value on the bits that the input shares sum to.
@@ -59,4 +59,10 @@ pub fn wires_are_counted()
 #[tactic(auto, using(crate::proofs::Numbering::shares_have_places))]
 pub fn shares_have_places()
     ensures { SharesHavePlaces }
+{}
+
+/// What the wires of a circuit carry: an input its shares, and a gate what its gadget makes of the shares of its operands
+/// and of its own stretch of fresh bits.
+pub fn wires_are_gates()
+    ensures { WiresAreGates }
 {}

@@ -1,5 +1,6 @@
 //! What is proved of a single gate: which wires it has, what is kept where it is watched, and how little it demands.
-ghost use Rattle.mask_laws.specs.Gadgets.{GateKeeps, MaskIsSymmetric};
+ghost use Rattle.mask_laws.specs.Gadgets.{GadgetsAreSNI, GateKeeps, MaskIsSymmetric};
+ghost use Rattle.mask_laws.specs.Masks.{MasksAtOnce};
 ghost use Rattle.mask_laws.specs.Names.{AllNamesInOrder, GateHasNames};
 ghost use Rattle.mask_laws.specs.Needs.{NeedsAreSmall};
 
@@ -23,7 +24,7 @@ pub fn probes_demand_few_shares()
     ensures { NeedsAreSmall }
 {}
 
-/// Product and refresh are strongly non-interfering, and the other gates keep what is watched too. Take inner probes and
+/// Each gate keeps what is watched, product and refresh by their fresh bits. Take inner probes and
 /// demanded output shares of a gate, together fewer than its shares, and two sides of operands that agree on the shares
 /// that the probes and the gate demand. Then each probed wire and each demanded output share carries, on the first side
 /// with any fresh bits, what it carries on the second with those fresh bits xored with the gate's mask. Adding a mask only
@@ -36,4 +37,17 @@ pub fn gates_keep_what_is_watched()
 /// second leads back.
 pub fn masks_are_symmetric()
     ensures { MaskIsSymmetric }
+{}
+
+/// The mask of a product or a refresh is what its rule gives row by row: the demanded rows that no probe touches are taken
+/// in rising order. Where output share i of a product would change under the mask so far, or share i of a refresh's operand
+/// changed, the bit of the pair of i and its partner is flipped.
+pub fn masks_row_by_row()
+    ensures { MasksAtOnce }
+{}
+
+/// Product and refresh are strongly non-interfering: in a circuit of one of them any t wires that are no output shares,
+/// together with output shares, all fewer than the shares, are simulated from t shares of each input.
+pub fn gadgets_are_sni()
+    ensures { GadgetsAreSNI }
 {}

@@ -6,5 +6,7 @@
 pub mod bridges;
 pub mod circuits;
 pub mod gadgets;
+pub mod privacy;
+pub mod refutations;
 pub mod runs;
 pub mod strong;

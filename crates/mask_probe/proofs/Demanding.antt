@@ -6,8 +6,8 @@ use Rattle.std.proofs.lemmas.Option.{slice_get-get_or}
 use Rattle.mask_circuit.specs.declared.gates.Gate.{Gate}
 use Rattle.mask_circuit.specs.declared.gates.Gate.TheVariants.{Zero, One, Xor, Not, And, Ref}
 use Rattle.mask_circuit.specs.Netlist.{Netlist, AreGates, OperandsBelow, value_count}
-use Rattle.mask_circuit.specs.Wires.{Wire}
-use Rattle.mask_circuit.specs.Expansion.{Place}
+use Rattle.mask_circuit.specs.declared.gates.Wire.{Wire}
+use Rattle.mask_circuit.specs.Expansion.{CircuitWire}
 use Rattle.mask_circuit.specs.Need.{ShareSet, is_share, demand, inner_probes, need_from}
 use Rattle.mask_circuit.specs.Acceptance.{IsAccepted}
 use Rattle.mask_circuit.proofs.GateAt.{AreGatesAt-all, gate_at_gate, gate_at_operands}
@@ -17,19 +17,16 @@ use Rattle.mask_laws.proofs.Sets.{size-mono}
 use Rattle.mask_laws.specs.Gadgets.{FitsGate}
 use Rattle.mask_sni.specs.Asked.{AreAsked, bit_shares, in_places, members, wires_at}
 use Rattle.mask_sni.proofs.Members.{length-members, length-wires_at}
-use Rattle.mask_probe.specs.Asking.{has_share}
-use Rattle.mask_probe.proofs.ShareSets.{All-members, bit_shares-or, in_places-members, or_false}
+use Rattle.mask_probe.specs.Asking.{IsWithin, has_share}
+use Rattle.mask_probe.proofs.ShareSets.{All-members, in_places-members, or_false}
 
 -- a value that gets more shares
-pub has_share-add : (sets : List ℕ) (u shares v i : ℕ) → u < length sets →
-    has_share (slice_set sets u (bit_or (slice_index sets u) shares)) v i ≡ (has_share sets v i || (v == u && bit_shares shares i))
-has_share-add sets u shares v i lt = go (cases_eq v u)
+pub has_share-add : (sets : List ℕ) (u new shares v i : ℕ) → u < length sets → bit_shares new i ≡ (bit_shares (slice_index sets u) i || bit_shares shares i) →
+    has_share (slice_set sets u new) v i ≡ (has_share sets v i || (v == u && bit_shares shares i))
+has_share-add sets u new shares v i lt is = go (cases_eq v u)
   where
-    new : ℕ
-    new = bit_or (slice_index sets u) shares
-
     go : (v ≡ u) ⊎ (v ≡ u → ⊥) → has_share (slice_set sets u new) v i ≡ (has_share sets v i || (v == u && bit_shares shares i))
-    go (inl e) = rw e (ap (λ s. bit_shares s i) (get_or-set_same sets u new 0 lt) ∙ bit_shares-or (slice_index sets u) shares i
+    go (inl e) = rw e (ap (λ s. bit_shares s i) (get_or-set_same sets u new 0 lt) ∙ is
         ∙ ap (λ b. has_share sets u i || (b && bit_shares shares i)) (sym (eq-eqb u u refl)))
     go (inr ne) = ap (λ s. bit_shares s i) (get_or-set_other sets u v new 0 ne) ∙ or_false (has_share sets v i)
         ∙ ap (λ b. has_share sets v i || (b && bit_shares shares i)) (sym (ne_eqb v u ne))
@@ -53,19 +50,20 @@ FitsAt-same N (And u v) Q O O' same fits = let fewer = size-mono N O' O (λ i lt
 FitsAt-same N (Ref u) Q O O' same fits = let fewer = size-mono N O' O (λ i lt d. sym (same i lt) ∙ d) in omega arith
 
 -- what fits from a value on fits from each later one
-pub FitsFrom-drop : (N : ℕ) (P : List Place) (gs : List Gate) (n k : ℕ) → FitsFrom N P gs n → FitsFrom N P (drop k gs) (n + k)
+pub FitsFrom-drop : (N : ℕ) (P : List CircuitWire) (gs : List Gate) (n k : ℕ) → FitsFrom N P gs n → FitsFrom N P (drop k gs) (n + k)
 FitsFrom-drop N P [] n k fits = rw (drop-nil {A = Gate} k) tt
 FitsFrom-drop N P (g ∷ gs) n zero fits = rw (add-zero n) fits
 FitsFrom-drop N P (g ∷ gs) n (suc k) fits =
     let e : suc n + k ≡ n + suc k = omega arith in subst (λ (m : ℕ). FitsFrom N P (drop k gs) m) e (FitsFrom-drop N P gs (suc n) k fits.1)
 
 -- The sets have what is demanded from gate number k on.
-pub record AreDemanded (c : Netlist) (N : ℕ) (P : List Place) (k : ℕ) (sets : List ℕ) : Type 0 where
+pub record AreDemanded (c : Netlist) (N : ℕ) (P : List CircuitWire) (k : ℕ) (sets : List ℕ) : Type 0 where
   pub count : length sets ≡ value_count c
   pub shares : (v i : ℕ) → v < value_count c → i < N → has_share sets v i ≡ need_from P (drop k c.gates) (c.inputs + k) v i
+  pub within : All (IsWithin N) sets
 
 -- the same with the first of these gates apart
-past : (c : Netlist) (P : List Place) (k v i : ℕ) → need_from P (drop (suc k) c.gates) (c.inputs + suc k) v i ≡ need_from P (drop (suc k) c.gates) (suc (c.inputs + k)) v i
+past : (c : Netlist) (P : List CircuitWire) (k v i : ℕ) → need_from P (drop (suc k) c.gates) (c.inputs + suc k) v i ≡ need_from P (drop (suc k) c.gates) (suc (c.inputs + k)) v i
 past c P k v i = let e : c.inputs + suc k ≡ suc (c.inputs + k) = omega arith in ap (λ n. need_from P (drop (suc k) c.gates) n v i) e
 
 -- gate number k of a circuit
@@ -77,7 +75,7 @@ pub gate_of-operands : (c : Netlist) (k : ℕ) → AreGates c.inputs c.gates →
 gate_of-operands c k are lt = gate_at_operands c (c.inputs + k) (gate_of c k) are (gate_at_gate c k ∙ slice_get-get_or c.gates k Zero lt)
 
 -- what is demanded so far fits it
-pub demanded_fits : (c : Netlist) (N : ℕ) (P : List Place) (k : ℕ) (sets : List ℕ) → AreGates c.inputs c.gates → IsAccepted c → length P < N → k < length c.gates →
+pub demanded_fits : (c : Netlist) (N : ℕ) (P : List CircuitWire) (k : ℕ) (sets : List ℕ) → AreGates c.inputs c.gates → IsAccepted c → length P < N → k < length c.gates →
     AreDemanded c N P (suc k) sets → FitsAt N (gate_of c k) (inner_probes (c.inputs + k) P) (has_share sets (c.inputs + k))
 demanded_fits c N P k sets are accepted few lt so_far =
     let all = FitsFrom-drop N P c.gates c.inputs k (FitsFrom-accepted c N P accepted few c.gates c.inputs (AreGatesAt-all c) are) in
@@ -86,16 +84,17 @@ demanded_fits c N P k sets are accepted few lt so_far =
     (λ i below. so_far.shares (c.inputs + k) i (omega arith) below ∙ past c P k (c.inputs + k) i) here.0
 
 -- and what it demands comes to it
-pub demanded_next : (c : Netlist) (N : ℕ) (P : List Place) (k : ℕ) (sets new : List ℕ) → k < length c.gates → AreDemanded c N P (suc k) sets → length new ≡ length sets →
+pub demanded_next : (c : Netlist) (N : ℕ) (P : List CircuitWire) (k : ℕ) (sets new : List ℕ) → k < length c.gates → AreDemanded c N P (suc k) sets → length new ≡ length sets →
     ((v i : ℕ) → i < N → has_share new v i ≡ (has_share sets v i || demand (gate_of c k) (inner_probes (c.inputs + k) P) (has_share sets (c.inputs + k)) v i)) →
-    AreDemanded c N P k new
-demanded_next c N P k sets new lt so_far same passed = record {
+    (All (IsWithin N) sets → All (IsWithin N) new) → AreDemanded c N P k new
+demanded_next c N P k sets new lt so_far same passed kept = record {
   count = same ∙ so_far.count;
   shares = λ v i known below. passed v i below
       ∙ ap₂ (λ a b. a || b) (so_far.shares v i known below ∙ past c P k v i)
       (demand-same (gate_of c k) (inner_probes (c.inputs + k) P) (has_share sets (c.inputs + k)) (need_from P (drop (suc k) c.gates) (suc (c.inputs + k)) (c.inputs + k)) v i
       (so_far.shares (c.inputs + k) i (omega arith) below ∙ past c P k (c.inputs + k) i))
       ∙ ap (λ gs. need_from P gs (c.inputs + k) v i) (sym (drop-cons c.gates k Zero lt));
+  within = kept so_far.within;
 }
 
 -- ONE GATE

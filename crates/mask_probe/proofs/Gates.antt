@@ -5,8 +5,9 @@ use Rattle.std.proofs.lemmas.Option.{slice_get-get_or}
 use Rattle.mask_circuit.specs.declared.gates.Gate.{Gate}
 use Rattle.mask_circuit.specs.declared.gates.Gate.TheVariants.{Zero}
 use Rattle.mask_circuit.specs.Netlist.{Netlist, OperandsBelow, AreGates, IsCircuit, value_count}
-use Rattle.mask_circuit.specs.Wires.{Wire, gate_draws}
-use Rattle.mask_circuit.specs.Expansion.{Place}
+use Rattle.mask_circuit.specs.declared.gates.Wire.{Wire}
+use Rattle.mask_circuit.specs.Wires.{gate_draws}
+use Rattle.mask_circuit.specs.Expansion.{CircuitWire}
 use Rattle.mask_circuit.specs.Need.{ShareSet, inner_probes, product_rows, demand, need_from}
 use Rattle.mask_circuit.specs.Acceptance.{gate_at}
 use Rattle.mask_circuit.proofs.GateAt.{gate_at_gate}
@@ -26,7 +27,7 @@ or-none true b e = refl
 or-none false b e = e
 
 -- the gates before gate k, and it, demand nothing of the values from its own on
-need_from-drop : (P : List Place) (gs : List Gate) (n k v i : ℕ) → AreGates n gs → n + k ≤ suc v → need_from P gs n v i ≡ need_from P (drop k gs) (n + k) v i
+need_from-drop : (P : List CircuitWire) (gs : List Gate) (n k v i : ℕ) → AreGates n gs → n + k ≤ suc v → need_from P gs n v i ≡ need_from P (drop k gs) (n + k) v i
 need_from-drop P gs n zero v i are le = ap (λ (m : ℕ). need_from P gs m v i) (sym (add-zero n))
 need_from-drop P [] n (suc k) v i are le = refl
 need_from-drop P (g ∷ gs) n (suc k) v i are le =
@@ -36,7 +37,7 @@ need_from-drop P (g ∷ gs) n (suc k) v i are le =
     ∙ need_from-drop P gs (suc n) k v i are.1 (omega arith) ∙ ap (λ (m : ℕ). need_from P (drop k gs) m v i) e
 
 -- what holds of gate number k, which makes value v, under the probes P
-pub record AtGate (c : Netlist) (N : ℕ) (P : List Place) (k v : ℕ) (g : Gate) : Type 0 where
+pub record AtGate (c : Netlist) (N : ℕ) (P : List CircuitWire) (k v : ℕ) (g : Gate) : Type 0 where
   pub value : v < value_count c
   pub gate : gate_at c v ≡ Some g
   pub left : drop k c.gates ≡ g ∷ drop (suc k) c.gates
@@ -45,7 +46,7 @@ pub record AtGate (c : Netlist) (N : ℕ) (P : List Place) (k v : ℕ) (g : Gate
   pub need : (i : ℕ) → need_from P c.gates c.inputs v i ≡ need_from P (drop (suc k) c.gates) (suc v) v i
   pub draws : draws_from N (drop k c.gates) ≡ gate_draws N g + draws_from N (drop (suc k) c.gates)
 
-at_place : (c : Netlist) (N : ℕ) (P : List Place) (k : ℕ) → AreGates c.inputs c.gates → FitsFrom N P c.gates c.inputs → k < length c.gates →
+at_place : (c : Netlist) (N : ℕ) (P : List CircuitWire) (k : ℕ) → AreGates c.inputs c.gates → FitsFrom N P c.gates c.inputs → k < length c.gates →
     AtGate c N P k (c.inputs + k) (gate_of c k)
 at_place c N P k are fits lt =
     let v : ℕ = c.inputs + k in
@@ -63,6 +64,6 @@ at_place c N P k are fits lt =
       draws = ap (draws_from N) left ∙ draws_from-cons N (gate_of c k) rest;
     }
 
-pub at_gate : (c : Netlist) (N : ℕ) (P : List Place) (k v : ℕ) (gates : List Gate) → IsCircuit c → FitsFrom N P c.gates c.inputs → gates ≡ c.gates →
+pub at_gate : (c : Netlist) (N : ℕ) (P : List CircuitWire) (k v : ℕ) (gates : List Gate) → IsCircuit c → FitsFrom N P c.gates c.inputs → gates ≡ c.gates →
     v ≡ c.inputs + k → k < length gates → AtGate c N P k v (get_or gates k Zero)
-at_gate c N P k v gates circuit fits same value lt = rw (same, value) (at_place c N P k circuit.gates fits (rw same at lt))
+at_gate c N P k v gates circuit fits same value lt = rw (same, value) (at_place c N P k circuit.formed.gates fits (rw same at lt))

@@ -5,16 +5,16 @@ use Rattle.std.proofs.lemmas.List.{map-append}
 use Rattle.std.proofs.lemmas.List.Elements.{All-push}
 use Rattle.std.proofs.lemmas.Option.{get_or_from_slice_get}
 use Rattle.mask_circuit.specs.Netlist.{Netlist, value_count}
-use Rattle.mask_circuit.specs.Wires.{Share}
+use Rattle.mask_circuit.specs.declared.gates.Wire.TheVariants.{Share}
 use Rattle.mask_circuit.specs.Expansion.{names, names_of, wire_count}
 use Rattle.mask_circuit.specs.Need.{probes_at}
-use Rattle.mask_laws.specs.Circuits.{ArePlaces}
+use Rattle.mask_laws.specs.Circuits.{AreWireNumbers}
 use Rattle.mask_probe.specs.Placing.{ArePlaced, place_of, places_of}
 use Rattle.mask_probe.specs.declared.places.Placed.{Placed}
 
 -- these are the places of the probes P, which are wires
 pub record AreLocated (c : Netlist) (N : ℕ) (P : List ℕ) (placed : List Placed) : Type 0 where
-  pub wires : ArePlaces c N P
+  pub wires : AreWireNumbers c N P
   pub places : places_of c N placed ≡ probes_at c N P
   pub known : ArePlaced c N placed
 

@@ -9,11 +9,12 @@ use Rattle.mask_circuit.specs.Wires.{each, pairs, fresh_of, fresh_between}
 use Rattle.mask_circuit.specs.Shift.{add_bits}
 use Rattle.mask_laws.specs.Names.{pair_number}
 use Rattle.mask_laws.proofs.Lookup.{fresh_of-at}
-use Rattle.mask_laws.proofs.PairNumbers.{length-pairs, pair_number-lt}
+use Rattle.mask_circuit.proofs.PairNumbers.{length-pairs, pair_number-lt}
 use Rattle.mask_circuit.proofs.Places.{length-each}
 use Rattle.mask_laws.proofs.Tapes.{length-add_bits}
-use Rattle.mask_sni.specs.Asked.{bit_shares, number_of}
-use Rattle.mask_sni.proofs.Masks.{bit_shares-number_of}
+use Rattle.mask_bits.specs.Reading.{lowest, number}
+use Rattle.mask_sni.specs.Asked.{bit_shares}
+use Rattle.mask_bits.proofs.Numbers.{length-lowest}
 use Rattle.mask_probe.specs.Sides.{bits_from}
 
 -- the number of a pair is below how many there are
@@ -41,15 +42,6 @@ fresh_high tape start n i k low high = rw (le-ltb i k (omega arith)) (sym (fresh
 pub length-bits_from : (tape : List Bool) (start count : ℕ) → start + count ≤ length tape → length (bits_from tape start count) ≡ count
 length-bits_from tape start count fits = length-take-le count (drop start tape) (omega (arith, length-drop start tape))
 
--- the bits of a mask that is a number
-each-take : (m : List Bool) (n : ℕ) → n ≤ length m → each (λ i. get_or m i false) n ≡ take n m
-each-take m zero le = refl
-each-take m (suc n) le = rw (each-take m n (omega arith)) (sym (take-suc m n false (omega arith)))
-
-pub each-number_of : (m : List Bool) (mask n : ℕ) → mask ≡ number_of m → length m ≡ n → each (bit_shares mask) n ≡ m
-each-number_of m mask n is long =
-    rw is (ap (λ (f : ℕ → Bool). each f n) (λ d i. bit_shares-number_of m i d) ∙ each-take m n (omega arith) ∙ take_all n m (omega arith))
-
 add_bits-last : (r m : List Bool) (b c : Bool) → length r ≡ length m → add_bits (r ++ b ∷ []) (m ++ c ∷ []) ≡ add_bits r m ++ xor b c ∷ []
 add_bits-last [] [] b c e = refl
 add_bits-last [] (y ∷ m) b c e = absurd (omega arith)
@@ -58,22 +50,22 @@ add_bits-last (x ∷ r) (y ∷ m) b c e = ap (λ (l : List Bool). xor x y ∷ l)
 
 -- one bit more of a tape with a mask added
 pub masked_more : (tape begun new : List Bool) (mask start count p : ℕ) (b c : Bool) → start + count ≤ length tape → p < count →
-    b ≡ get_or tape (start + p) false → c ≡ bit_shares mask p → new ≡ begun ++ add_bits (bits_from tape start p) (each (bit_shares mask) p) →
-    new ++ xor b c ∷ [] ≡ begun ++ add_bits (bits_from tape start (p + 1)) (each (bit_shares mask) (p + 1))
+    b ≡ get_or tape (start + p) false → c ≡ bit_shares mask p → new ≡ begun ++ add_bits (bits_from tape start p) (lowest p mask) →
+    new ++ xor b c ∷ [] ≡ begun ++ add_bits (bits_from tape start (p + 1)) (lowest (p + 1) mask)
 masked_more tape begun new mask start count p b c fits lt bit flip so_far =
     let within : p < length (drop start tape) = omega (arith, length-drop start tape) in
-    let long : length (bits_from tape start p) ≡ length (each (bit_shares mask) p)
-    = length-bits_from tape start p (omega arith) ∙ sym (length-each (bit_shares mask) p) in
+    let long : length (bits_from tape start p) ≡ length (lowest p mask)
+    = length-bits_from tape start p (omega arith) ∙ sym (length-lowest p mask) in
     rw (
       take_more (drop start tape) p false within,
       get_or-drop start tape p false,
       add-one p,
-      add_bits-last (bits_from tape start p) (each (bit_shares mask) p) (get_or tape (start + p) false) (bit_shares mask p) long,
+      add_bits-last (bits_from tape start p) (lowest p mask) (get_or tape (start + p) false) (bit_shares mask p) long,
       bit,
       flip,
       so_far,
     )
-    (append_assoc begun (add_bits (bits_from tape start p) (each (bit_shares mask) p)) (xor (get_or tape (start + p) false) (bit_shares mask p) ∷ []))
+    (append_assoc begun (add_bits (bits_from tape start p) (lowest p mask)) (xor (get_or tape (start + p) false) (bit_shares mask p) ∷ []))
 
 -- a tape with a part more is as much longer
 pub length-masked : (tape begun m : List Bool) (start count : ℕ) → start + count ≤ length tape →

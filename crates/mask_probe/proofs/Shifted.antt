@@ -3,7 +3,7 @@ use Rattle.std.proofs.Common.{◌≡◌, ℕ, ◌<◌, ◌≤◌, Bool, List, le
 use Rattle.mask_circuit.specs.Netlist.{Netlist, IsCircuit}
 use Rattle.mask_circuit.specs.Ring.{bits}
 use Rattle.mask_circuit.specs.Wires.{Shares}
-use Rattle.mask_circuit.specs.Expansion.{Place, draws, start}
+use Rattle.mask_circuit.specs.Expansion.{CircuitWire, draws, start}
 use Rattle.mask_circuit.specs.Probing.{AgreeOn, seen}
 use Rattle.mask_circuit.specs.Need.{need, probes_at}
 use Rattle.mask_circuit.specs.Acceptance.{IsAccepted}
@@ -29,19 +29,19 @@ module _ (c c' c'' : Netlist) (N : ℕ) (P : List ℕ) (placed now : List Placed
   pub placed_fit : IsCircuit c → IsAccepted c → length P < N → FitsFrom N (places_of c'' N now) c''.gates c''.inputs
   placed_fit circuit accepted few =
       subst (λ (d : Netlist). FitsFrom N (places_of c'' N now) d.gates d.inputs) (sym second)
-      (subst (λ (l : List Place). FitsFrom N l c.gates c.inputs) (sym places_are) (accepted_fits c N P circuit.gates accepted few))
+      (subst (λ (l : List CircuitWire). FitsFrom N l c.gates c.inputs) (sym places_are) (accepted_fits c N P circuit.formed.gates accepted few))
 
   -- and the new tape is that of the shift
   pub placed_shift : (x y : ℕ → Shares Bool) (tape new : List Bool) →
       new ≡ shift_from (places_of c'' N now) N c''.gates c''.inputs (start bits x) (start bits y) tape → new ≡ shift c N x y P tape
   placed_shift x y tape new made =
-      made ∙ ap₂ (λ (d : Netlist) (l : List Place). shift_from l N d.gates d.inputs (start bits x) (start bits y) tape) second places_are
+      made ∙ ap₂ (λ (d : Netlist) (l : List CircuitWire). shift_from l N d.gates d.inputs (start bits x) (start bits y) tape) second places_are
 
 -- the probes see with the new tape what they saw
 pub shift_seen : (c : Netlist) (N : ℕ) (P : List ℕ) (x y : ℕ → Shares Bool) (tape new : List Bool) → 2 ≤ N → IsCircuit c → IsAccepted c → AreProbes c N P →
     length tape ≡ draws c N → new ≡ shift c N x y P tape → AgreeOn c N (need c N P) x y → seen c N y new P ≡ seen c N x tape P
 shift_seen c N P x y tape new two circuit accepted asked long made agree =
-    let kept = shift_keeps gate_keeps c N x y P tape two circuit.gates asked.wires (accepted_fits c N P circuit.gates accepted asked.few) agree long in
+    let kept = shift_keeps gate_keeps c N x y P tape two circuit.formed.gates asked.wires (accepted_fits c N P circuit.formed.gates accepted asked.few) agree long in
     ap (λ (r : List Bool). seen c N y r P) made ∙ kept.0
 
 -- the new tape is as long as the given one ..

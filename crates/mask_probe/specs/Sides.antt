@@ -2,7 +2,8 @@
 use Rattle.std.specs.Prelude.{◌≡◌, ℕ, ◌+◌, ◌*◌, ◌<◌, Bool, false, List, length, take, drop, slice_index, slice_index_or}
 use Rattle.mask_circuit.specs.declared.gates.Gate.{Gate}
 use Rattle.mask_circuit.specs.Ring.{bits}
-use Rattle.mask_circuit.specs.Wires.{Share, Shares, pairs, fresh_of, gate_draws, gate_wire}
+use Rattle.mask_circuit.specs.declared.gates.Wire.TheVariants.{Share}
+use Rattle.mask_circuit.specs.Wires.{Shares, pairs, fresh_of, gate_draws, gate_wire}
 use Rattle.mask_sni.specs.Asked.{bit_shares}
 
 -- the input shares that a list of bits holds, value by value and share by share

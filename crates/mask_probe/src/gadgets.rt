@@ -3,14 +3,14 @@
 ghost use Rattle.std.specs.Prelude.{◌≡◌, ◌≢◌, ◌+◌, ◌<◌, ◌≤◌, ◌==◌, ◌&&◌, not, length};
 ghost use Rattle.mask_circuit.specs.Netlist.{OperandsBelow};
 ghost use Rattle.mask_circuit.specs.Ring.{bits};
-ghost use Rattle.mask_circuit.specs.Wires.{Share, pairs, fresh_between, cross, product_wire, refresh_wire, gate_draws, gate_wire};
-ghost use Rattle.mask_laws.specs.Names.{pair_number};
+ghost use Rattle.mask_circuit.specs.declared.gates.Wire.TheVariants.{Share};
+ghost use Rattle.mask_circuit.specs.Wires.{pairs, fresh_between, cross, product_wire, refresh_wire, gate_draws, gate_wire};
 ghost use Rattle.mask_sni.specs.Asked.{bit_shares};
 ghost use Rattle.mask_probe.specs.Sides.{byte_shares, bits_from, fresh_from, IsOutput};
 
-use crate::sides::{append_share, bit_of};
+use crate::sides::{append_share, share_of};
 use mask_bits::Bits;
-use mask_circuit::Gate;
+use mask_circuit::{Gate, pair_number};
 
 /// The output shares of a gate, where `shares` has those of all earlier values and the gate's fresh bits stand in the tape
 /// from `start` on.
@@ -52,8 +52,8 @@ fn gate_share<const N: usize>(
     match gate {
         Gate::Zero => false,
         Gate::One => i == 0,
-        Gate::Xor(u, v) => bit_of(shares[u as usize], i) ^ bit_of(shares[v as usize], i),
-        Gate::Not(u) => bit_of(shares[u as usize], i) ^ (i == 0),
+        Gate::Xor(u, v) => share_of(shares[u as usize], i) ^ share_of(shares[v as usize], i),
+        Gate::Not(u) => share_of(shares[u as usize], i) ^ (i == 0),
         Gate::And(u, v) => {
             product_share::<N>(shares[u as usize], shares[v as usize], tape, start, i)
         }
@@ -61,7 +61,7 @@ fn gate_share<const N: usize>(
     }
 }
 
-// Output share i of the product of a and b: the sum of a_i · b_i and all r_ik.
+// Output share i of the product of a and b: the XOR of a_i · b_i and all r_ik.
 fn product_share<const N: usize>(a: u8, b: u8, tape: &Bits, start: usize, i: usize) -> bool
     requires some { 2 ≤ N }
     requires few { N ≤ 8 }
@@ -70,7 +70,7 @@ fn product_share<const N: usize>(a: u8, b: u8, tape: &Bits, start: usize, i: usi
     ensures { result
         ≡ product_wire bits N (bit_shares a) (bit_shares b) (fresh_from N tape.now start) (Share i) }
 {
-    let mut sum = bit_of(a, i) && bit_of(b, i);
+    let mut sum = share_of(a, i) && share_of(b, i);
     for k in 0..N {
         sum ^= product_column::<N>(a, b, tape, start, i, k);
     }
@@ -110,12 +110,12 @@ fn cross_bit<const N: usize>(a: u8, b: u8, tape: &Bits, start: usize, i: usize, 
     if i < k {
         return fresh;
     }
-    let left = bit_of(a, k) && bit_of(b, i);
-    let right = bit_of(a, i) && bit_of(b, k);
+    let left = share_of(a, k) && share_of(b, i);
+    let right = share_of(a, i) && share_of(b, k);
     fresh ^ left ^ right
 }
 
-// Share i of a refresh of a: the sum of a_i and the fresh bits of all its pairs.
+// Share i of a refresh of a: the XOR of a_i and the fresh bits of all its pairs.
 fn refresh_share<const N: usize>(a: u8, tape: &Bits, start: usize, i: usize) -> bool
     requires some { 2 ≤ N }
     requires few { N ≤ 8 }
@@ -124,7 +124,7 @@ fn refresh_share<const N: usize>(a: u8, tape: &Bits, start: usize, i: usize) -> 
     ensures { result
         ≡ refresh_wire bits N (bit_shares a) (fresh_from N tape.now start) (Share i) }
 {
-    let mut sum = bit_of(a, i);
+    let mut sum = share_of(a, i);
     for k in 0..N {
         sum ^= refresh_column::<N>(tape, start, i, k);
     }
@@ -155,19 +155,8 @@ fn fresh_bit<const N: usize>(tape: &Bits, start: usize, i: usize, k: usize) -> b
 {
     prove!(start <= tape.len());
     if i < k {
-        tape.get(start + pair_number::<N>(i, k))
+        tape.get(start + pair_number(N, i, k))
     } else {
-        tape.get(start + pair_number::<N>(k, i))
+        tape.get(start + pair_number(N, k, i))
     }
-}
-
-// The number of the pair of shares i and j, where the pairs stand row by row.
-fn pair_number<const N: usize>(i: usize, j: usize) -> usize
-    requires few { N ≤ 8 }
-    requires order { i < j }
-    requires bound { j < N }
-    ensures value { result ≡ pair_number N i j }
-    ensures bound { result < length (pairs N) }
-{
-    i * (2 * N - i - 1) / 2 + (j - i - 1)
 }

@@ -2,15 +2,17 @@
 
 ghost use Rattle.std.specs.Prelude.{◌≡◌, ℕ, ◌<◌, ◌≤◌, ◌||◌, false, length, All, IfSome, slice_index_or};
 ghost use Rattle.mask_circuit.specs.Netlist.{value_count};
-ghost use Rattle.mask_circuit.specs.Wires.{Share, gate_names};
+ghost use Rattle.mask_circuit.specs.declared.gates.Wire.TheVariants.{Share};
+ghost use Rattle.mask_circuit.specs.Wires.{gate_names};
 ghost use Rattle.mask_circuit.specs.Expansion.{names_by, names_of};
 ghost use Rattle.mask_circuit.specs.Need.{inner_probes, is_share, probed_shares};
 ghost use Rattle.mask_circuit.specs.Shift.{is_some_of};
 ghost use Rattle.mask_sni.specs.Asked.{bit_shares, share_number, wires_at};
+ghost use Rattle.mask_probe.specs.Asking.{IsWithin};
 ghost use Rattle.mask_probe.specs.Placing.{ArePlaced, places_of};
 
 use crate::places::Placed;
-use crate::sets::with_share;
+use crate::sets::ShareSet;
 use mask_circuit::{Circuit, Gate};
 use mask_sni::{Probes, and_share, ref_share};
 
@@ -39,31 +41,38 @@ pub(crate) fn inner_probes<const N: usize>(
     inner
 }
 
-/// The output shares of a value that are probed: bit i is share i.
-pub(crate) fn probed_shares<const N: usize>(circuit: &Circuit, placed: &[Placed], value: u32) -> u8
+/// The output shares of a value that are probed.
+pub(crate) fn probed_shares<const N: usize>(
+    circuit: &Circuit,
+    placed: &[Placed],
+    value: u32,
+) -> ShareSet
     requires some { 2 ≤ N }
     requires most { N ≤ 8 }
     requires value { value < value_count circuit.now }
     requires known { ArePlaced circuit.now N placed.now }
-    ensures { (i : ℕ) → i < N → bit_shares result i ≡ probed_shares (places_of circuit.now N placed.now) value i }
+    ensures shares { (i : ℕ) → i < N → bit_shares result i ≡ probed_shares (places_of circuit.now N placed.now) value i }
+    ensures within { IsWithin N result }
 {
     let gate = circuit.gate_at(value);
-    let mut probed = 0;
+    let mut probed = ShareSet::new();
     for probe in placed {
         if probe.value == value {
-            probed = with_wire(probed, share_of::<N>(gate, probe.part));
+            probed = with_wire::<N>(probed, share_of::<N>(gate, probe.part));
         }
     }
     probed
 }
 
 // The set with the share that a wire is, if it is one.
-fn with_wire(set: u8, share: Option<u8>) -> u8
-    requires { IfSome share (λ k. k < 8) }
-    ensures { (i : ℕ) → bit_shares result i ≡ (bit_shares set i || is_some_of share i) }
+fn with_wire<const N: usize>(set: ShareSet, share: Option<u8>) -> ShareSet
+    requires most { N ≤ 8 }
+    requires below { IfSome share (λ k. k < N) }
+    ensures shares { (i : ℕ) → bit_shares result i ≡ (bit_shares set i || is_some_of share i) }
+    ensures within { IsWithin N set → IsWithin N result }
 {
     match share {
-        Some(share) => with_share(set, share),
+        Some(share) => set.with(share),
         None => set,
     }
 }

@@ -1,9 +1,9 @@
 //! Which input shares suffice for probes.
 
-ghost use Rattle.std.specs.Prelude.{◌≡◌, ℕ, ◌<◌, ◌≤◌, length, IfOk, IfErr, OnOk};
+ghost use Rattle.std.specs.Prelude.{◌≡◌, ℕ, ◌<◌, ◌≤◌, length, All, IfOk, IfErr, OnOk};
 ghost use Rattle.mask_circuit.specs.Probing.{HasAtMost, IsSimulated};
 ghost use Rattle.mask_circuit.specs.Need.{need};
-ghost use Rattle.mask_probe.specs.Asking.{AreProbes, IsProbeRefusal, has_share};
+ghost use Rattle.mask_probe.specs.Asking.{AreProbes, IsProbeRefusal, IsWithin, has_share};
 
 use crate::demands::demanded;
 use crate::errors::ProbeError;
@@ -28,6 +28,7 @@ pub fn needs<const N: usize>(
     ensures asked { OnOk result (AreProbes circuit.now N probes.now) }
     ensures count { IfOk result (λ n. length n ≡ circuit.now.inputs) }
     ensures need { IfOk result (λ n. (v i : ℕ) → v < circuit.now.inputs → i < N → has_share n v i ≡ need circuit.now N probes.now v i) }
+    ensures within { IfOk result (λ n. All (IsWithin N) n) }
     ensures few_shares { OnOk result (HasAtMost circuit.now N (need circuit.now N probes.now) (length probes.now)) }
     ensures simulated { OnOk result (IsSimulated circuit.now N probes.now (need circuit.now N probes.now)) }
     ensures refused { IfErr result (λ e. IsProbeRefusal circuit.now N probes.now e) }

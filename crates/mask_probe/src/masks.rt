@@ -6,13 +6,14 @@ ghost use Rattle.mask_circuit.specs.Acceptance.{gate_at};
 ghost use Rattle.mask_circuit.specs.Need.{inner_probes};
 ghost use Rattle.mask_circuit.specs.Shift.{gate_mask};
 ghost use Rattle.mask_laws.specs.Circuits.{FitsAt};
-ghost use Rattle.mask_sni.specs.Asked.{bit_shares, number_of};
+ghost use Rattle.mask_bits.specs.Reading.{number};
+ghost use Rattle.mask_sni.specs.Asked.{bit_shares};
 ghost use Rattle.mask_probe.specs.Placing.{ArePlaced, places_of};
 ghost use Rattle.mask_probe.specs.Sides.{byte_shares};
 
 use crate::inner::inner_probes;
 use crate::places::Placed;
-use crate::sets::places_in;
+use crate::sets::ShareSet;
 use crate::shifting::Shifting;
 use mask_circuit::{Circuit, Gate};
 use mask_sni::{and_shift, ref_shift};
@@ -22,7 +23,7 @@ use mask_sni::{and_shift, ref_shift};
 pub(crate) fn mask_of<const N: usize>(
     circuit: &Circuit,
     placed: &[Placed],
-    outputs: u8,
+    outputs: ShareSet,
     value: u32,
     gate: Gate,
     shifting: &Shifting,
@@ -37,10 +38,10 @@ pub(crate) fn mask_of<const N: usize>(
     requires second { OperandsBelow (length shifting.now.second.items) gate }
     requires fits { FitsAt N gate (inner_probes value (places_of circuit.now N placed.now)) (bit_shares outputs) }
     ensures { result
-        ≡ number_of (gate_mask N gate (inner_probes value (places_of circuit.now N placed.now)) (bit_shares outputs)
+        ≡ number (gate_mask N gate (inner_probes value (places_of circuit.now N placed.now)) (bit_shares outputs)
         (byte_shares shifting.now.first.items) (byte_shares shifting.now.second.items)) }
 {
-    let places = places_in::<N>(outputs);
+    let places = outputs.places::<N>();
     let first = shifting.first.as_slice();
     let second = shifting.second.as_slice();
     match gate {

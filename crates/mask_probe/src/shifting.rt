@@ -8,8 +8,8 @@ ghost use Rattle.mask_probe.specs.Shifting.{masked_bits, IsShifted};
 
 use crate::gadgets::gate_shares;
 use crate::sides::inputs_of;
-use mask_bits::Bits;
-use mask_circuit::Gate;
+use mask_bits::{Bits, bit_of};
+use mask_circuit::{Gate, pair_count};
 use std::alloc::{AllocError, Global};
 
 /// A shift under way: the shares of the values so far on the two sides, and the new tape so far.
@@ -75,7 +75,7 @@ fn push_masked(new: &mut Bits, tape: &Bits, count: usize, mask: u32) -> Result<(
     ensures { OnOk result (new.new ≡ new.old ++ masked_bits tape.now (length new.old) count mask) }
 {
     for p in 0..count {
-        let flip = (mask >> p) & 1 == 1;
+        let flip = bit_of(mask as u64, p as u32);
         let bit = tape.get(new.len());
         new.push(bit ^ flip)?;
     }
@@ -90,7 +90,7 @@ fn draws_of<const N: usize>(gate: Gate) -> usize
     ensures few { result ≤ 28 }
 {
     match gate {
-        Gate::And(_, _) | Gate::Ref(_) => N * (N - 1) / 2,
+        Gate::And(_, _) | Gate::Ref(_) => pair_count(N),
         Gate::Zero | Gate::One | Gate::Xor(_, _) | Gate::Not(_) => 0,
     }
 }

@@ -4,15 +4,15 @@ ghost use Rattle.std.specs.Prelude.{◌≡◌, ℕ, ◌+◌, ◌*◌, ◌<◌, �
 ghost use Rattle.mask_sni.specs.Asked.{bit_shares};
 ghost use Rattle.mask_probe.specs.Sides.{byte_shares, input_shares};
 
-use mask_bits::Bits;
+use mask_bits::{Bits, bit_of};
 use std::alloc::{AllocError, Global};
 
-/// Bit i of a byte: share i of a value, or whether share i is in a set.
-pub(crate) fn bit_of(byte: u8, i: usize) -> bool
+/// Share i of a value, whose shares are the bits of a byte.
+pub(crate) fn share_of(byte: u8, i: usize) -> bool
     requires { i < 8 }
     ensures { result ≡ bit_shares byte i }
 {
-    (byte >> i) & 1 == 1
+    bit_of(byte as u64, i as u32)
 }
 
 /// The shares before share i, with share i.

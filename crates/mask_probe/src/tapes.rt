@@ -8,14 +8,15 @@ ghost use Rattle.mask_circuit.specs.Probing.{AgreeOn, seen};
 ghost use Rattle.mask_circuit.specs.Need.{need, need_from};
 ghost use Rattle.mask_circuit.specs.Shift.{shift, shift_from};
 ghost use Rattle.mask_laws.specs.Circuits.{FitsFrom};
-ghost use Rattle.mask_probe.specs.Asking.{AreProbes, IsProbeRefusal};
+ghost use Rattle.mask_probe.specs.Asking.{AreProbes, IsProbeRefusal, has_share};
 ghost use Rattle.mask_probe.specs.Placing.{ArePlaced, places_of};
-ghost use Rattle.mask_probe.specs.Sides.{byte_shares, input_shares};
+ghost use Rattle.mask_probe.specs.Sides.{input_shares};
 
 use crate::demands::demanded;
 use crate::errors::ProbeError;
 use crate::masks::mask_of;
 use crate::places::{Placed, locate};
+use crate::sets::ShareSet;
 use crate::shifting::{begin, shift_gate};
 use mask_bits::Bits;
 use mask_check::Admitted;
@@ -61,7 +62,7 @@ fn shifted<const N: usize>(
     alloc: Global,
     circuit: &Circuit,
     placed: &[Placed],
-    sets: &[u8],
+    sets: &[ShareSet],
     x: &Bits,
     y: &Bits,
     tape: &Bits,
@@ -72,7 +73,7 @@ fn shifted<const N: usize>(
     requires count { length placed.now < N }
     requires fits { FitsFrom N (places_of circuit.now N placed.now) circuit.now.gates circuit.now.inputs }
     requires sets { (v i : ℕ) → v < value_count circuit.now → i < N
-        → byte_shares sets.now v i ≡ need_from (places_of circuit.now N placed.now) circuit.now.gates circuit.now.inputs v i }
+        → has_share sets.now v i ≡ need_from (places_of circuit.now N placed.now) circuit.now.gates circuit.now.inputs v i }
     requires values { length sets.now ≡ value_count circuit.now }
     requires x { length x.now ≡ N * circuit.now.inputs }
     requires y { length y.now ≡ N * circuit.now.inputs }

@@ -1,4 +1,4 @@
-ghost use Rattle.std.specs.Prelude.{◌≡◌, ◌<◌};
+ghost use Rattle.std.specs.Prelude.{◌≡◌, ◌<◌, ◌≤◌, length};
 
 use super::{Needs, ProbeError, needs, shift_tape};
 use mask_bits::Bits;
@@ -115,5 +115,82 @@ fn shifted_bit(alloc: Global) -> Result<Option<bool>, Fail> {
 #[test]
 fn shifts_the_tape_of_a_refresh(rt: HostRuntime) -> Result<(), Fail> {
     assert!(rt; shifted_bit(rt.alloc())? == Some(true));
+    Ok(())
+}
+
+// Whether just the first N - 1 shares of the first input are needed, of all eight that a set has room for.
+fn are_first<const N: usize>(needs: &Needs) -> bool
+    requires { N ≤ 8 }
+{
+    if needs.inputs() == 0 {
+        return false;
+    }
+    for share in 0..8 {
+        if needs.has(0, share) != (share + 1 < N as u32) {
+            return false;
+        }
+    }
+    true
+}
+
+// With probes on the first N - 1 shares of the first input: whether just these are needed.
+fn needs_probed<const N: usize>(alloc: Global, circuit: &Admitted) -> Result<bool, ProbeError>
+    requires some { 2 ≤ N }
+    requires few { N ≤ 8 }
+{
+    let probes: [u32; 7] = [0, 1, 2, 3, 4, 5, 6];
+    let found = needs::<N>(alloc, circuit, &probes[..N - 1])?;
+    Ok(are_first::<N>(&found))
+}
+
+// With the same probes, and the last share of the first of two inputs changed: whether there is a tape.
+fn is_shifted<const N: usize>(alloc: Global, circuit: &Admitted) -> Result<bool, ProbeError>
+    requires some { 2 ≤ N }
+    requires few { N ≤ 8 }
+{
+    let probes: [u32; 7] = [0, 1, 2, 3, 4, 5, 6];
+    let draws = circuit.circuit().draws(N as u32 - 1);
+    if circuit.circuit().inputs() != 2 || draws > 1_000_000 {
+        return Ok(false);
+    }
+    let x = Bits::zeros(alloc, N * 2)?;
+    let mut y = Bits::zeros(alloc, N * 2)?;
+    y.set(N - 1, true);
+    let tape = Bits::zeros(alloc, draws as usize)?;
+    let shifted = shift_tape::<N>(alloc, circuit, &x, &y, &probes[..N - 1], &tape)?;
+    Ok(shifted.len() == tape.len())
+}
+
+fn answers<const N: usize>(alloc: Global, circuit: &Admitted) -> Result<bool, ProbeError>
+    requires some { 2 ≤ N }
+    requires few { N ≤ 8 }
+{
+    Ok(needs_probed::<N>(alloc, circuit)? && is_shifted::<N>(alloc, circuit)?)
+}
+
+#[test]
+fn answers_at_each_order(rt: HostRuntime) -> Result<(), Fail> {
+    let circuit = product(&rt, true)?;
+    assert!(rt; answers::<2>(rt.alloc(), &circuit)?);
+    assert!(rt; answers::<3>(rt.alloc(), &circuit)?);
+    assert!(rt; answers::<4>(rt.alloc(), &circuit)?);
+    assert!(rt; answers::<5>(rt.alloc(), &circuit)?);
+    assert!(rt; answers::<6>(rt.alloc(), &circuit)?);
+    assert!(rt; answers::<7>(rt.alloc(), &circuit)?);
+    assert!(rt; answers::<8>(rt.alloc(), &circuit)?);
+    Ok(())
+}
+
+// 100,000 refreshes of an input.
+#[test]
+fn answers_at_size(rt: HostRuntime) -> Result<(), Fail> {
+    let mut builder = Builder::new(rt.alloc(), 2)?;
+    for _gate in 0..100_000 {
+        if builder.values() > 0 {
+            builder.refresh(0)?;
+        }
+    }
+    let circuit = try_admit(rt.alloc(), builder.finish())?;
+    assert!(rt; answers::<2>(rt.alloc(), &circuit)?);
     Ok(())
 }

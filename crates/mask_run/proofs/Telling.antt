@@ -66,7 +66,7 @@ TellsSecureCalls-evaluated c d inputs tape tape' told told' evaluates count some
       evaluation = IsEvaluation-eval_call c d inputs (low evaluates.fresh) count enough;
       accepted = accepted;
       non_interfering = secure (suc d) (omega arith);
-      strongly = strong_is_sni c (suc d) (omega arith) circuit;
+      strongly = strong_is_sni c (suc d) (omega arith) circuit.formed;
     }
 
     one : All IsSecure (eval_call c d inputs (low evaluates.fresh) ∷ [])

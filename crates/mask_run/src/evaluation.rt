@@ -9,7 +9,7 @@ ghost use Rattle.mask_circuit.specs.Value.{plain};
 ghost use Rattle.mask_shares.specs.Sharing.{all_shared};
 ghost use Rattle.mask_tape.specs.Drawn.{left};
 ghost use Rattle.mask_tape.specs.declared.tape.TapeError.TheVariants.{Failed, NoMemory};
-ghost use Rattle.mask_eval.specs.Frames.{Fits, input_values};
+ghost use Rattle.mask_eval.specs.Frames.{IsFrameOf, input_values};
 ghost use Rattle.mask_eval.specs.Watching.{told_more};
 ghost use Rattle.mask_run.specs.Outside.{bytes_for};
 ghost use Rattle.mask_run.specs.Calls.{eval_bits, eval_call, Evaluates, TellsSecureCalls};
@@ -113,7 +113,7 @@ fn run<const N: usize, W: Watch, L: Ledger>(
     requires some { 2 ≤ N }
     requires few { N ≤ 8 }
     requires order { order + 1 ≡ N }
-    requires fits { Fits frame.old prepared.now.circuit }
+    requires fits { IsFrameOf frame.old prepared.now.circuit }
     requires unused { coins.old.used ≡ 0 }
     requires coins { length coins.old.words ≡ eval_bits prepared.now.circuit order }
     requires ready { W.ready watch.old prepared.now.circuit order 1 }
@@ -139,7 +139,7 @@ fn share_inputs<const N: usize>(inputs: &Bits, frame: &mut Frame<N>, coins: &mut
     requires room { frame.old.inputs ≤ length frame.old.values }
     requires coins { (N - 1) * length inputs.now ≤ left coins.old }
     ensures values { input_values frame.new ≡ all_shared words (N - 1) (words_of inputs.now) (drop coins.old.used coins.old.words) }
-    ensures fits { (c : Netlist) → Fits frame.old c → Fits frame.new c }
+    ensures fits { (c : Netlist) → IsFrameOf frame.old c → IsFrameOf frame.new c }
     ensures spent { coins.new.used ≡ coins.old.used + (N - 1) * length inputs.now }
     ensures same { coins.new.words ≡ coins.old.words }
 {

@@ -82,6 +82,15 @@ impl<const N: usize> Shares<N> {
         self.words[i]
     }
 
+    /// All shares, by their numbers.
+    pub fn parts(&self) -> [u64; N]
+        requires { N ≤ 8 }
+        ensures value { result ≡ self.now }
+        ensures count { length self.now ≡ N }
+    {
+        self.words
+    }
+
     /// How many shares there are.
     pub fn count(&self) -> usize
         ensures value { result ≡ N }

@@ -1,41 +1,26 @@
 -- The mask of a call keeps what is watched: the law of the gate at the bits of the mask.
-use Rattle.std.proofs.Common.{◌≡◌, ℕ, zero, suc, ◌<◌, ◌≤◌, ◌==◌, ◌&&◌, inl, inr, Bool, true, false, List, [], ◌∷◌, length, map, get_or, All, Contains, refl, sym, ◌∙◌, subst, arith}
-use Rattle.std.specs.Int.{bit_at}
+use Rattle.std.proofs.Common.{◌≡◌, ℕ, zero, suc, ◌-◌, ◌<◌, ◌≤◌, ◌==◌, ◌&&◌, inl, inr, Bool, true, false, List, [], ◌∷◌, length, map, get_or, All, Contains, refl, sym, ◌∙◌, subst, arith}
 use Rattle.std.proofs.lemmas.List.{length-map}
 use Rattle.std.proofs.lemmas.List.Elements.{All-append, All-map, All-weaker, All-contains, All-contains_itself, Contains-get_or}
 use Rattle.std.proofs.lemmas.List.Folds.{list_any_at}
 use Rattle.std.proofs.lemmas.Bool.{and_parts, or_cases, eqb-true, eq-eqb}
+use Rattle.mask_bits.specs.Reading.{lowest, number}
+use Rattle.mask_bits.proofs.Numbers.{lowest-of}
 use Rattle.mask_circuit.specs.declared.gates.Gate.{Gate}
 use Rattle.mask_circuit.specs.declared.gates.Gate.TheVariants.{And, Ref}
 use Rattle.mask_circuit.specs.Ring.{bits}
-use Rattle.mask_circuit.specs.Wires.{Wire, Share, Shares, each, pairs, gate_names, gate_draws, gate_wire, product_names, refresh_names}
+use Rattle.mask_circuit.specs.declared.gates.Wire.{Wire}
+use Rattle.mask_circuit.specs.declared.gates.Wire.TheVariants.{Share}
+use Rattle.mask_circuit.specs.Wires.{Shares, each, pairs, gate_names, gate_draws, gate_wire, product_names, refresh_names}
 use Rattle.mask_circuit.specs.Probing.{size}
 use Rattle.mask_circuit.specs.Need.{ShareSet, left_need, right_need, refresh_need}
 use Rattle.mask_circuit.specs.Shift.{gate_mask, add_bits}
 use Rattle.mask_laws.specs.Gadgets.{AreInner, FitsGate, AgreeBefore, IsWatched}
 use Rattle.mask_laws.proofs.Gates.{gate_keeps}
 use Rattle.mask_laws.proofs.Sets.{size-owned}
-use Rattle.mask_sni.specs.Asked.{AreAsked, bit_shares, in_places, members, number_of, operand_shares, wires_at}
-use Rattle.mask_sni.specs.Keeping.{mask_bits, watched, AgreeAt, MaskKeeps}
-use Rattle.mask_sni.proofs.Masks.{bit_shares-number_of}
+use Rattle.mask_sni.specs.Asked.{AreAsked, bit_shares, in_places, members, operand_shares, wires_at}
+use Rattle.mask_sni.specs.Keeping.{watched, AgreeAt, MaskKeeps}
 use Rattle.mask_sni.proofs.Members.{Contains-members, length-wires_at}
-
--- THE BITS OF A MASK
-
--- a list made by number, its first element first
-each-first : {A : Type 0} (f : ℕ → A) (n : ℕ) → each f (suc n) ≡ f 0 ∷ each (λ k. f (suc k)) n
-each-first f zero = refl
-each-first f (suc n) = rw (each-first f n) refl
-
--- a list is made by number from its elements
-each-elements : (f : ℕ → Bool) (bs : List Bool) → ((k : ℕ) → k < length bs → f k ≡ get_or bs k false) → each f (length bs) ≡ bs
-each-elements f [] same = refl
-each-elements f (b ∷ bs) same =
-    let rest = each-elements (λ k. f (suc k)) bs (λ k lt. same (suc k) (omega arith)) in
-    rw (each-first f (length bs), same 0 (omega arith), rest) refl
-
-mask_bits-number_of : (bs : List Bool) → mask_bits (length bs) (number_of bs) ≡ bs
-mask_bits-number_of bs = each-elements (λ k. bit_at (number_of bs) k == 1) bs (λ k lt. bit_shares-number_of bs k)
 
 -- WHAT IS ASKED IS WHAT THE LAW WANTS
 
@@ -68,12 +53,12 @@ fits n names P O asked =
 pub mask_keeps : (n : ℕ) (g : Gate) (P O : List ℕ) (s s2 : ℕ → Shares Bool) (mask : ℕ) → 2 ≤ n → AreAsked n (gate_names n g) P O →
     gate_draws n g ≡ length (pairs n) → length (gate_mask n g (wires_at (gate_names n g) P) (in_places O) s s2) ≡ length (pairs n) →
     AgreeBefore n g (wires_at (gate_names n g) P) (in_places O) s s2 →
-    mask ≡ number_of (gate_mask n g (wires_at (gate_names n g) P) (in_places O) s s2) →
+    mask ≡ number (gate_mask n g (wires_at (gate_names n g) P) (in_places O) s s2) →
     MaskKeeps n g (watched (gate_names n g) P O) s s2 mask
 mask_keeps n g P O s s2 mask two asked draws masks agree is fresh count =
     let Q = wires_at (gate_names n g) P in
     let M = gate_mask n g Q (in_places O) s s2 in
-    let back : mask_bits (length (pairs n)) mask ≡ M = rw is (subst (λ (k : ℕ). mask_bits k (number_of M) ≡ M) masks (mask_bits-number_of M)) in
+    let back : lowest (length (pairs n)) mask ≡ M = lowest-of M mask (length (pairs n)) is masks in
     let same : Wire → Type 0 = λ w. gate_wire bits n g s fresh w ≡ gate_wire bits n g s2 (add_bits fresh M) w in
     let law : (w : Wire) → IsWatched n Q (in_places O) w → same w =
     gate_keeps n g Q (in_places O) s s2 fresh two (inner n g P O asked) (fits n (gate_names n g) P O asked) agree (count ∙ sym draws) in
@@ -97,7 +82,7 @@ agree_product n Q O a b a2 b2 left right v i lt demanded = elim (or_cases (v == 
 ]
 
 pub product_mask_keeps : (n a b a2 b2 : ℕ) (P O : List ℕ) (mask : ℕ) → 2 ≤ n → AreAsked n (product_names n) P O →
-    mask ≡ number_of (gate_mask n (And 0 1) (wires_at (product_names n) P) (in_places O) (operand_shares a b) (operand_shares a2 b2)) →
+    mask ≡ number (gate_mask n (And 0 1) (wires_at (product_names n) P) (in_places O) (operand_shares a b) (operand_shares a2 b2)) →
     AgreeAt (members n (left_need (wires_at (product_names n) P))) a a2 → AgreeAt (members n (right_need (wires_at (product_names n) P))) b b2 →
     MaskKeeps n (And 0 1) (watched (product_names n) P O) (operand_shares a b) (operand_shares a2 b2) mask
 product_mask_keeps n a b a2 b2 P O mask two asked is left right =
@@ -112,7 +97,7 @@ agree_refresh n Q O a a2 agree v i lt demanded =
     (Contains-members (refresh_need Q) n i lt (and_parts (v == 0) (refresh_need Q i) demanded).1)
 
 pub refresh_mask_keeps : (n a a2 : ℕ) (P O : List ℕ) (mask : ℕ) → 2 ≤ n → AreAsked n (refresh_names n) P O →
-    mask ≡ number_of (gate_mask n (Ref 0) (wires_at (refresh_names n) P) (in_places O) (λ u. bit_shares a) (λ u. bit_shares a2)) →
+    mask ≡ number (gate_mask n (Ref 0) (wires_at (refresh_names n) P) (in_places O) (λ u. bit_shares a) (λ u. bit_shares a2)) →
     AgreeAt (members n (refresh_need (wires_at (refresh_names n) P))) a a2 →
     MaskKeeps n (Ref 0) (watched (refresh_names n) P O) (λ u. bit_shares a) (λ u. bit_shares a2) mask
 refresh_mask_keeps n a a2 P O mask two asked is agree =

@@ -1,6 +1,5 @@
 pub mod Keeping
 pub mod Members
 pub mod Numbers
-pub mod Probed
 pub mod Masks
 pub mod Sums

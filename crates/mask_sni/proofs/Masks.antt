@@ -1,49 +1,25 @@
--- The bits of a mask one after another, and the least number that passes a test.
-use Rattle.std.proofs.Common.{◌≡◌, inl, inr, ℕ, zero, suc, ◌+◌, ◌*◌, ◌/◌, ◌%◌, ◌^◌, ◌<◌, ◌≤◌, Bool, true, false, cond, List, [], ◌∷◌, ◌++◌, length, map, take, get_or, slice_get, Some, None, refl, sym, ap, ◌∙◌, arith, add-one}
+-- A mask bit by bit, and the least number that passes a test.
+use Rattle.std.proofs.Common.{◌≡◌, inl, inr, ℕ, zero, suc, ◌+◌, ◌*◌, ◌/◌, ◌%◌, ◌^◌, ◌<◌, ◌≤◌, Bool, true, false, cond, if◌then◌else◌, List, [], ◌∷◌, ◌++◌, length, map, take, get_or, slice_get, Some, None, refl, sym, ap, ◌∙◌, arith, add-one}
 use Rattle.std.specs.declared.option.Option.{Option}
 use Rattle.std.specs.Option.{MatchOption}
 use Rattle.std.proofs.Math.Nat.{pow-le-pow_right, pow-succ'}
-use Rattle.std.proofs.Math.Seq.{take-suc}
-use Rattle.std.proofs.lemmas.List.{get_or-map, length-map, length-take-le, take_all}
-use Rattle.std.proofs.lemmas.Nat.Bits.{bit_at-zero, bit_at-suc, bit_at_lowest}
+use Rattle.std.proofs.lemmas.List.{get_or-map, length-map, take_all}
 use Rattle.std.proofs.lemmas.Option.{get_or_from_slice_get, slice_get_within}
+use Rattle.mask_bits.specs.Reading.{number}
+use Rattle.mask_bits.proofs.Numbers.{number-more}
 use Rattle.mask_circuit.specs.Wires.{Pair, pairs}
 use Rattle.mask_circuit.specs.Shift.{least}
 use Rattle.mask_circuit.proofs.Places.{below_cases}
-use Rattle.mask_laws.specs.Names.{IsPair, pair_number, pair_count}
+use Rattle.mask_circuit.specs.Pairs.{IsPair, pair_number, pair_count}
 use Rattle.mask_laws.proofs.LocalNumbers.{pairs_in_order}
-use Rattle.mask_sni.specs.Asked.{bit_shares, number_of}
 
-twice : (a m n x y : ℕ) → m ≡ n + x → y ≡ 2 * x → a + 2 * m ≡ a + 2 * n + y
-twice a m n x y e d = omega arith
+-- what a bit weighs at a place
+weight : (b : Bool) (n : ℕ) → (if b then 1 else 0) * n ≡ cond b n 0
+weight true n = omega arith
+weight false n = omega arith
 
-power-suc : (k : ℕ) → 2 ^ suc k ≡ 2 * 2 ^ k
-power-suc k = pow-succ' 2 k
-
-lowest_bit : (b : Bool) (n : ℕ) → bit_shares (cond b 1 0 + 2 * n) 0 ≡ b
-lowest_bit true n = rw bit_at_lowest (let odd : (1 + 2 * n) % 2 ≡ 1 = omega arith in rw odd refl)
-lowest_bit false n = rw bit_at_lowest (let even : (0 + 2 * n) % 2 ≡ 0 = omega arith in rw even refl)
-
-halved : (b : Bool) (n : ℕ) → (cond b 1 0 + 2 * n) / 2 ≡ n
-halved true n = omega arith
-halved false n = omega arith
-
--- the bits of a number are those that made it
-pub bit_shares-number_of : (bs : List Bool) (k : ℕ) → bit_shares (number_of bs) k ≡ get_or bs k false
-bit_shares-number_of [] k = rw bit_at-zero refl
-bit_shares-number_of (b ∷ bs) zero = lowest_bit b (number_of bs)
-bit_shares-number_of (b ∷ bs) (suc k) = rw (bit_at-suc (number_of (b ∷ bs)) k, halved b (number_of bs)) (bit_shares-number_of bs k)
-
--- one bit more
-pub number_of-last : (bs : List Bool) (b : Bool) → number_of (bs ++ b ∷ []) ≡ number_of bs + cond b (2 ^ length bs) 0
-number_of-last [] true = refl
-number_of-last [] false = refl
-number_of-last (x ∷ bs) true = twice (cond x 1 0) _ (number_of bs) (2 ^ length bs) _ (number_of-last bs true) (power-suc (length bs))
-number_of-last (x ∷ bs) false = twice (cond x 1 0) _ (number_of bs) 0 0 (number_of-last bs false) refl
-
-number_more : (bs : List Bool) (k : ℕ) → k < length bs → number_of (take (suc k) bs) ≡ number_of (take k bs) + cond (get_or bs k false) (2 ^ k) 0
-number_more bs k lt =
-    rw (take-suc bs k false lt, number_of-last (take k bs) (get_or bs k false), length-take-le k bs (omega arith)) refl
+number_more : (bs : List Bool) (k : ℕ) → k < length bs → number (take (k + 1) bs) ≡ number (take k bs) + cond (get_or bs k false) (2 ^ k) 0
+number_more bs k lt = number-more bs k lt ∙ ap (λ (w : ℕ). number (take k bs) + w) (weight (get_or bs k false) (2 ^ k))
 
 -- the bit of a pair in a mask by pairs
 pair_bit : (f : Pair → Bool) (n i j p : ℕ) → IsPair n i j → pair_number n i j ≡ p → (p < length (pairs n)) × (get_or (map f (pairs n)) p false ≡ f (i, j))
@@ -54,23 +30,23 @@ pair_bit f n i j p is e =
     (within, get_or-map f (pairs n) p (i, j) false within ∙ ap f (get_or_from_slice_get (pairs n) p (i, j) (i, j) here))
 
 -- a mask with the bit of one pair more
-pub mask_more : (f : Pair → Bool) (n i j p mask r : ℕ) (b : Bool) → IsPair n i j → pair_number n i j ≡ p → mask ≡ number_of (take p (map f (pairs n))) →
-    r ≡ cond b (2 ^ p) 0 → b ≡ f (i, j) → mask + r ≡ number_of (take (p + 1) (map f (pairs n)))
+pub mask_more : (f : Pair → Bool) (n i j p mask r : ℕ) (b : Bool) → IsPair n i j → pair_number n i j ≡ p → mask ≡ number (take p (map f (pairs n))) →
+    r ≡ cond b (2 ^ p) 0 → b ≡ f (i, j) → mask + r ≡ number (take (p + 1) (map f (pairs n)))
 mask_more f n i j p mask r b is e so_far bit flipped =
     let here = pair_bit f n i j p is e in
     let within : p < length (map f (pairs n)) = rw (length-map (pairs n) f) here.0 in
-    rw (so_far, bit, flipped, sym here.1, add-one p) (sym (number_more (map f (pairs n)) p within))
+    rw (so_far, bit, flipped, sym here.1) (sym (number_more (map f (pairs n)) p within))
 
 -- the mask once all pairs are passed
-pub mask_all : (f : Pair → Bool) (n p mask : ℕ) → p ≡ pair_count n → mask ≡ number_of (take p (map f (pairs n))) → mask ≡ number_of (map f (pairs n))
+pub mask_all : (f : Pair → Bool) (n p mask : ℕ) → p ≡ pair_count n → mask ≡ number (take p (map f (pairs n))) → mask ≡ number (map f (pairs n))
 mask_all f n p mask e so_far =
     let order = pairs_in_order n in
     let count = order.count in
-    so_far ∙ ap number_of (take_all p (map f (pairs n)) (rw (length-map (pairs n) f) (omega arith)))
+    so_far ∙ ap number (take_all p (map f (pairs n)) (rw (length-map (pairs n) f) (omega arith)))
 
 -- it stays small
 pub small_more : (p mask r : ℕ) → mask < 2 ^ p → r ≤ 2 ^ p → mask + r < 2 ^ (p + 1)
-small_more p mask r low bit = rw (add-one p, power-suc p) (omega arith)
+small_more p mask r low bit = let twice : 2 ^ suc p ≡ 2 * 2 ^ p = pow-succ' 2 p in rw (add-one p, twice) (omega arith)
 
 -- no number passes
 least_none : (test : ℕ → Bool) (n : ℕ) → ((k : ℕ) → 0 ≤ k → k < n → test k ≡ false) → least test n ≡ None

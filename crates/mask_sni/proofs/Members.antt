@@ -3,15 +3,16 @@ use Rattle.std.proofs.Common.{◌≡◌, ◌⊎◌, ℕ, zero, suc, ◌+◌, ◌
 use Rattle.std.specs.List.{filter}
 use Rattle.std.proofs.lemmas.List.{append-nil, length-map}
 use Rattle.std.proofs.lemmas.List.Elements.{filter-append, Contains-append_left, Contains-push}
-use Rattle.mask_circuit.specs.Wires.{Wire, Share, each}
+use Rattle.mask_circuit.specs.declared.gates.Wire.{Wire}
+use Rattle.mask_circuit.specs.declared.gates.Wire.TheVariants.{Share}
+use Rattle.mask_circuit.specs.Wires.{each}
 use Rattle.mask_circuit.specs.Probing.{size}
 use Rattle.mask_circuit.specs.Need.{ShareSet}
 use Rattle.mask_circuit.proofs.Places.{below_cases}
 use Rattle.mask_laws.proofs.Needs.{needs_are_small}
 use Rattle.mask_sni.specs.declared.needs.Operand.{Operand}
 use Rattle.mask_sni.specs.declared.needs.Operand.TheVariants.{First, Second, Only}
-use Rattle.mask_sni.specs.declared.wires.LocalWire.{LocalWire}
-use Rattle.mask_sni.specs.Asked.{members, named, wires_at, wires_of}
+use Rattle.mask_sni.specs.Asked.{members, wires_at}
 use Rattle.mask_sni.specs.Kinds.{needed}
 
 -- a share more that is in the set, and one that isn't
@@ -39,8 +40,8 @@ needed_small First n Q = (needs_are_small n Q).0
 needed_small Second n Q = (needs_are_small n Q).1
 needed_small Only n Q = (needs_are_small n Q).2
 
-pub needed_few : (operand : Operand) (n : ℕ) (ws : List LocalWire) → length (members n (needed operand (wires_of ws))) ≤ length ws
-needed_few operand n ws = omega (arith, length-members (needed operand (wires_of ws)) n, needed_small operand n (wires_of ws), length-map ws named)
+pub needed_few : (operand : Operand) (n : ℕ) (ws : List Wire) → length (members n (needed operand ws)) ≤ length ws
+needed_few operand n ws = omega (arith, length-members (needed operand ws) n, needed_small operand n ws)
 
 -- a share of the set is among its members
 pub Contains-members : (set : ShareSet) (n i : ℕ) → i < n → set i ≡ true → Contains (members n set) i

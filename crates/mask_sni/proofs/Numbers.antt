@@ -3,25 +3,11 @@ use Rattle.std.proofs.Common.{◌≡◌, ℕ, zero, suc, ◌+◌, ◌-◌, ◌*�
 use Rattle.std.proofs.Math.Nat.{div-lt_iff_lt-mul}
 use Rattle.std.proofs.lemmas.Option.{get_or_from_slice_get}
 use Rattle.std.proofs.lemmas.Nat.{div-add-mod'}
-use Rattle.mask_circuit.specs.Wires.{Wire, Share, Product, Fresh, Left, Right, other, row_wire, product_names, refresh_names}
-use Rattle.mask_laws.specs.Names.{IsPair, pairs_before, pair_number, pair_count}
+use Rattle.mask_circuit.specs.declared.gates.Wire.{Wire}
+use Rattle.mask_circuit.specs.declared.gates.Wire.TheVariants.{Share, Product, Fresh, Left, Right}
+use Rattle.mask_circuit.specs.Wires.{other, row_wire, product_names, refresh_names}
+use Rattle.mask_circuit.specs.Pairs.{IsPair, pair_number, pair_count}
 use Rattle.mask_laws.proofs.LocalNumbers.{product_in_order, refresh_in_order}
-use Rattle.mask_laws.proofs.PairNumbers.{pairs_before-count}
-
-after_row : (n i m : ℕ) → m ≡ suc i → pairs_before n m ≡ pairs_before n i + (n - suc i)
-after_row n i m e = rw e refl
-
--- a pair is left while not all are passed
-pub row_left : (n i p rest : ℕ) → p < pair_count n → i < n → pairs_before n i + rest ≡ p → n - 1 - i ≤ rest → i + 1 < n
-row_left n i p rest lt low e le = go (n - suc i) refl
-  where
-    go : (d : ℕ) → n - suc i ≡ d → i + 1 < n
-    go (suc d) is = omega arith
-    go zero is =
-        let last : n ≡ suc i = omega arith in
-        let all = pairs_before-count n in
-        let more = after_row n i n last in
-        omega arith
 
 -- a quotient is below what its number is below in whole parts
 pub row_below : (p n k : ℕ) → 0 < k → p < n * k → p / k < n

@@ -1,27 +1,14 @@
--- What is asked about a product or a refresh, and how the code's wires are those of the definitions.
+-- What is asked about a product or a refresh.
 use Rattle.std.specs.Prelude.{◌≡◌, ℕ, ◌+◌, ◌*◌, ◌<◌, ◌==◌, Bool, false, cond, List, [], ◌∷◌, length, map, All, slice_index_or, Some, None}
 use Rattle.std.specs.List.{filter, list_any}
-use Rattle.std.specs.Int.{bit_at}
 use Rattle.std.specs.declared.option.Option.{Option}
-use Rattle.mask_circuit.specs.Wires.{Wire, Share, Product, Fresh, Left, Right, Partial, Shares, each}
+use Rattle.mask_bits.specs.Reading.{bit}
+use Rattle.mask_circuit.specs.declared.gates.Wire.{Wire}
+use Rattle.mask_circuit.specs.declared.gates.Wire.TheVariants.{Share, Product, Fresh, Left, Right, Partial}
+use Rattle.mask_circuit.specs.Wires.{Shares, each}
 use Rattle.mask_circuit.specs.Need.{ShareSet, is_share}
 use Rattle.mask_circuit.specs.Shift.{Sides}
 use Rattle.mask_sni.specs.declared.products.Sides as code
-use Rattle.mask_sni.specs.declared.wires.LocalWire.{LocalWire}
-use Rattle.mask_sni.specs.declared.wires.LocalWire.TheVariants.{OutputShare, Term, FreshBit, LeftSum, RightSum, RowSum}
-
--- the wire that a wire of the code is
-abbrev pub named : LocalWire → Wire
-named (OutputShare i) = Share i
-named (Term i j) = Product i j
-named (FreshBit i j) = Fresh i j
-named (LeftSum i j) = Left i j
-named (RightSum i j) = Right i j
-named (RowSum i k) = Partial i k
-
--- the wires that wires of the code are
-abbrev pub wires_of : List LocalWire → List Wire
-wires_of ws = map named ws
 
 -- the number of the output share that a wire is, where it is one
 abbrev pub share_number : Wire → Option ℕ
@@ -53,12 +40,7 @@ in_places O i = list_any (λ k. k == i) O
 
 -- the shares that a number holds: share i is bit i
 abbrev pub bit_shares : ℕ → Shares Bool
-bit_shares a i = bit_at a i == 1
-
--- the number with these bits, the lowest first
-abbrev pub number_of : List Bool → ℕ
-number_of [] = 0
-number_of (b ∷ bs) = cond b 1 0 + 2 * number_of bs
+bit_shares a i = bit i a
 
 -- the shares of two operands, of which the first is value 0
 abbrev pub operand_shares : ℕ → ℕ → ℕ → Shares Bool

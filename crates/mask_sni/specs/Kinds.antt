@@ -1,7 +1,9 @@
 -- What differs between a product and a refresh.
 use Rattle.std.specs.Prelude.{ℕ, Bool, List}
 use Rattle.std.specs.List.{list_any}
-use Rattle.mask_circuit.specs.Wires.{Wire, Fresh, Left, product_names, refresh_names}
+use Rattle.mask_circuit.specs.declared.gates.Wire.{Wire}
+use Rattle.mask_circuit.specs.declared.gates.Wire.TheVariants.{Fresh, Left}
+use Rattle.mask_circuit.specs.Wires.{product_names, refresh_names}
 use Rattle.mask_circuit.specs.Need.{ShareSet, is_of_row, is_update_of, left_need, right_need, refresh_need}
 use Rattle.mask_circuit.specs.Shift.{product_mask, refresh_mask}
 use Rattle.mask_sni.specs.Asked.{operand_sides}

@@ -4,11 +4,12 @@ ghost use Rattle.std.specs.Prelude.{◌≡◌, ◌≤◌, length};
 ghost use Rattle.arrayvec.specs.ArrayVec.{array_vec_len};
 ghost use Rattle.mask_circuit.specs.Wires.{product_names, refresh_names};
 ghost use Rattle.mask_circuit.specs.Need.{demands_right, product_rows, left_need, right_need, refresh_need};
-ghost use Rattle.mask_sni.specs.Asked.{AreAsked, members, named, wires_at, wires_of};
+ghost use Rattle.mask_sni.specs.Asked.{AreAsked, members, wires_at};
 ghost use Rattle.mask_sni.specs.Kinds.{needed};
 
-use crate::wires::{Kind, LocalWire, probed_wires, touches};
+use crate::wires::{Kind, demands_left, probed_wires, touches};
 use crate::{Places, Probes};
+use mask_circuit::Wire;
 
 /// The shares of the first and of the second operand of a product that the probes need: at most as many of each as
 /// there are probes. Output shares need nothing.
@@ -54,9 +55,9 @@ pub(crate) enum Operand {
 }
 
 // The shares of an operand that probes on these wires need.
-fn needed(n: u8, wires: &[LocalWire], operand: Operand) -> Places
+fn needed(n: u8, wires: &[Wire], operand: Operand) -> Places
     requires { n ≤ 8 }
-    ensures shares { result.items ≡ members n (needed operand (wires_of wires.now)) }
+    ensures shares { result.items ≡ members n (needed operand wires.now) }
     ensures count { array_vec_len result ≤ length wires.now }
 {
     let mut shares = Places::new();
@@ -69,12 +70,12 @@ fn needed(n: u8, wires: &[LocalWire], operand: Operand) -> Places
 }
 
 // Whether they need share i of an operand.
-fn is_needed(wires: &[LocalWire], operand: Operand, i: u8) -> bool
-    ensures { result ≡ needed operand (wires_of wires.now) i }
+fn is_needed(wires: &[Wire], operand: Operand, i: u8) -> bool
+    ensures { result ≡ needed operand wires.now i }
 {
     match operand {
         Operand::First => {
-            touches(Kind::Product, wires, i) || wires.iter().any(|wire| wire.demands_left(i))
+            touches(Kind::Product, wires, i) || wires.iter().any(|wire| demands_left(*wire, i))
         }
         Operand::Second => {
             touches(Kind::Product, wires, i)
@@ -84,14 +85,14 @@ fn is_needed(wires: &[LocalWire], operand: Operand, i: u8) -> bool
     }
 }
 
-// Whether a probe on this wire demands share i of the second operand: a_j · b_i does, and a sum v between a touched row
+// Whether a probe on this wire demands share i of the second operand: a_j · b_i does, and a wire v between a touched row
 // and row i that isn't touched.
-fn demands_right(wires: &[LocalWire], wire: LocalWire, i: u8) -> bool
-    ensures { result ≡ demands_right (product_rows (wires_of wires.now)) i (named wire) }
+fn demands_right(wires: &[Wire], wire: Wire, i: u8) -> bool
+    ensures { result ≡ demands_right (product_rows wires.now) i wire }
 {
     match wire {
-        LocalWire::Term(_, l) => l == i,
-        LocalWire::LeftSum(k, l) => {
+        Wire::Product(_, l) => l == i,
+        Wire::Left(k, l) => {
             let lower = touches(Kind::Product, wires, k);
             let higher = touches(Kind::Product, wires, l);
             (lower && !higher && l == i) || (higher && !lower && k == i)

@@ -1,10 +1,12 @@
 //! Which output share a wire of a product or a refresh is.
 
 ghost use Rattle.std.specs.Prelude.{◌≡◌, ◌<◌, ◌≤◌, length, slice_index_or};
-ghost use Rattle.mask_circuit.specs.Wires.{Share, product_names, refresh_names};
-ghost use Rattle.mask_sni.specs.Asked.{named, share_number};
+ghost use Rattle.mask_circuit.specs.declared.gates.Wire.TheVariants.{Share};
+ghost use Rattle.mask_circuit.specs.Wires.{product_names, refresh_names};
+ghost use Rattle.mask_sni.specs.Asked.{share_number};
 
-use crate::wires::{LocalWire, product_wire, refresh_wire};
+use crate::wires::{product_wire, refresh_wire};
+use mask_circuit::Wire;
 
 /// The number of the output share that a wire of a product is, where it is one.
 pub fn and_share<const N: usize>(wire: u8) -> Option<u8>
@@ -27,11 +29,11 @@ pub fn ref_share<const N: usize>(wire: u8) -> Option<u8>
 }
 
 // The number of the output share that a wire is, where it is one.
-fn output_share(wire: LocalWire) -> Option<u8>
-    ensures { result ≡ share_number (named wire) }
+fn output_share(wire: Wire) -> Option<u8>
+    ensures { result ≡ share_number wire }
 {
     match wire {
-        LocalWire::OutputShare(i) => Some(i),
+        Wire::Share(i) => Some(i),
         _ => None,
     }
 }

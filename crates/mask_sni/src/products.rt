@@ -2,11 +2,13 @@
 
 ghost use Rattle.std.specs.Prelude.{◌≡◌, ◌<◌, ◌≤◌, ◌==◌, ◌&&◌, not};
 ghost use Rattle.mask_circuit.specs.Shift.{product_change, product_base, cross_change, share_change, product_mask};
-ghost use Rattle.mask_sni.specs.Asked.{bit_shares, in_places, operand_sides, wires_of};
+ghost use Rattle.mask_sni.specs.Asked.{bit_shares, in_places, operand_sides};
 
 use crate::Places;
 use crate::partners::{is_flipped_with, is_probed_between};
-use crate::wires::{Kind, LocalWire, touches};
+use crate::wires::{Kind, touches};
+use mask_bits::bit_of;
+use mask_circuit::Wire;
 
 /// An operand on two sides: bit i is share i.
 #[derive(Clone, Copy)]
@@ -18,7 +20,7 @@ pub(crate) struct Sides {
 /// Whether the fresh bit of the pair (i, j) is flipped, where a and b are the operands.
 pub(crate) fn is_flipped(
     n: u8,
-    wires: &[LocalWire],
+    wires: &[Wire],
     outputs: &Places,
     a: Sides,
     b: Sides,
@@ -30,7 +32,7 @@ pub(crate) fn is_flipped(
     requires row { i < j }
     requires column { j < n }
     ensures { result
-        ≡ product_mask n (wires_of wires.now) (in_places outputs.now.items) (operand_sides a) (operand_sides b) i j }
+        ≡ product_mask n wires.now (in_places outputs.now.items) (operand_sides a) (operand_sides b) i j }
 {
     let i_changes = share_changes(n, wires, a, b, i);
     let j_changes = share_changes(n, wires, a, b, j);
@@ -40,12 +42,12 @@ pub(crate) fn is_flipped(
 }
 
 // Whether output share i changes with the sides under the mask before any flip.
-fn share_changes(n: u8, wires: &[LocalWire], a: Sides, b: Sides, i: u8) -> bool
+fn share_changes(n: u8, wires: &[Wire], a: Sides, b: Sides, i: u8) -> bool
     requires some { 2 ≤ n }
     requires most { n ≤ 8 }
     requires row { i < n }
     ensures { result
-        ≡ share_change n (operand_sides a) (operand_sides b) (product_base (wires_of wires.now) (operand_sides a) (operand_sides b)) i }
+        ≡ share_change n (operand_sides a) (operand_sides b) (product_base wires.now (operand_sides a) (operand_sides b)) i }
 {
     let mut changes = term_changes(a, b, i, i);
     for k in 0..n {
@@ -56,12 +58,12 @@ fn share_changes(n: u8, wires: &[LocalWire], a: Sides, b: Sides, i: u8) -> bool
 
 // Whether what column k adds to row i changes with the sides under the mask before any flip: r_ik, and nothing in
 // column i.
-fn column_changes(wires: &[LocalWire], a: Sides, b: Sides, i: u8, k: u8) -> bool
+fn column_changes(wires: &[Wire], a: Sides, b: Sides, i: u8, k: u8) -> bool
     requires row { i < 8 }
     requires column { k < 8 }
     ensures { result
         ≡ (not (i == k) && cross_change (operand_sides a) (operand_sides b)
-        (product_base (wires_of wires.now) (operand_sides a) (operand_sides b)) i k) }
+        (product_base wires.now (operand_sides a) (operand_sides b)) i k) }
 {
     if i == k {
         false
@@ -73,10 +75,10 @@ fn column_changes(wires: &[LocalWire], a: Sides, b: Sides, i: u8, k: u8) -> bool
 }
 
 // The bit of the pair (i, j) in the mask before any flip.
-fn base(wires: &[LocalWire], a: Sides, b: Sides, i: u8, j: u8) -> bool
+fn base(wires: &[Wire], a: Sides, b: Sides, i: u8, j: u8) -> bool
     requires row { i < j }
     requires column { j < 8 }
-    ensures { result ≡ product_base (wires_of wires.now) (operand_sides a) (operand_sides b) i j }
+    ensures { result ≡ product_base wires.now (operand_sides a) (operand_sides b) i j }
 {
     if touches(Kind::Product, wires, i) {
         false
@@ -103,5 +105,5 @@ pub(crate) fn share_of(shares: u8, i: u8) -> bool
     requires { i < 8 }
     ensures { result ≡ bit_shares shares i }
 {
-    (shares >> i) & 1 == 1
+    bit_of(shares as u64, i as u32)
 }

@@ -1,19 +1,21 @@
 //! The mask that leads from fresh bits of a product or a refresh on one side of its operands to fresh bits on another
-//! side, on which the probes and the named output shares carry the same.
+//! side, on which the probes and the output shares carry the same.
 
 ghost use Rattle.std.specs.Prelude.{◌≡◌, ◌<◌, ◌≤◌, ◌^◌, cond, map};
+ghost use Rattle.mask_bits.specs.Reading.{number};
 ghost use Rattle.mask_circuit.specs.declared.gates.Gate.TheVariants.{And, Ref};
 ghost use Rattle.mask_circuit.specs.Wires.{pairs, product_names, refresh_names};
 ghost use Rattle.mask_circuit.specs.Need.{left_need, right_need, refresh_need};
 ghost use Rattle.mask_circuit.specs.Shift.{refresh_mask, gate_mask};
-ghost use Rattle.mask_sni.specs.Asked.{AreAsked, bit_shares, in_places, members, number_of, operand_shares, operand_sides, wires_at, wires_of};
+ghost use Rattle.mask_sni.specs.Asked.{AreAsked, bit_shares, in_places, members, operand_shares, operand_sides, wires_at};
 ghost use Rattle.mask_sni.specs.Keeping.{watched, AgreeAt, MaskKeeps};
 ghost use Rattle.mask_sni.specs.Kinds.{mask_of};
 
 use crate::partners::is_flipped_with;
 use crate::products::{self, Sides, share_of};
-use crate::wires::{Kind, LocalWire, pair_at, probed_wires};
+use crate::wires::{Kind, local_pair, probed_wires};
 use crate::{Places, Probes};
+use mask_circuit::{Wire, pair_count};
 
 /// The mask of a product: bit p is that of the fresh bit of pair p. Bit i of `a` and of `b` is share i of the first and of
 /// the second operand on one side, and of `a2` and `b2` on the other. With the sides changed the mask is the same. It is
@@ -30,10 +32,10 @@ pub fn and_shift<const N: usize>(
     requires most { N ≤ 8 }
     requires asked { AreAsked N (product_names N) probes.now.items outputs.now.items }
     ensures mask { result
-        ≡ number_of (gate_mask N (And 0 1) (wires_at (product_names N) probes.now.items) (in_places outputs.now.items)
+        ≡ number (gate_mask N (And 0 1) (wires_at (product_names N) probes.now.items) (in_places outputs.now.items)
         (operand_shares a b) (operand_shares a2 b2)) }
     ensures symmetric { result
-        ≡ number_of (gate_mask N (And 0 1) (wires_at (product_names N) probes.now.items) (in_places outputs.now.items)
+        ≡ number (gate_mask N (And 0 1) (wires_at (product_names N) probes.now.items) (in_places outputs.now.items)
         (operand_shares a2 b2) (operand_shares a b)) }
 
     // Sides that agree on the needed shares show the same, with fresh bits on the one and the masked ones on the other.
@@ -57,10 +59,10 @@ pub fn ref_shift<const N: usize>(probes: &Probes, outputs: &Places, a: u8, a2: u
     requires most { N ≤ 8 }
     requires asked { AreAsked N (refresh_names N) probes.now.items outputs.now.items }
     ensures mask { result
-        ≡ number_of (gate_mask N (Ref 0) (wires_at (refresh_names N) probes.now.items) (in_places outputs.now.items)
+        ≡ number (gate_mask N (Ref 0) (wires_at (refresh_names N) probes.now.items) (in_places outputs.now.items)
         (λ u. bit_shares a) (λ u. bit_shares a2)) }
     ensures symmetric { result
-        ≡ number_of (gate_mask N (Ref 0) (wires_at (refresh_names N) probes.now.items) (in_places outputs.now.items)
+        ≡ number (gate_mask N (Ref 0) (wires_at (refresh_names N) probes.now.items) (in_places outputs.now.items)
         (λ u. bit_shares a2) (λ u. bit_shares a)) }
 
     // Sides that agree on the needed shares show the same, with fresh bits on the one and the masked ones on the other.
@@ -82,15 +84,15 @@ pub(crate) enum Operands {
 }
 
 // The mask of a gate: bit p is that of the fresh bit of pair p.
-fn mask_of(n: u8, wires: &[LocalWire], outputs: &Places, operands: Operands) -> u32
+fn mask_of(n: u8, wires: &[Wire], outputs: &Places, operands: Operands) -> u32
     requires some { 2 ≤ n }
     requires most { n ≤ 8 }
     ensures { result
-        ≡ number_of (map (λ p. mask_of operands n (wires_of wires.now) (in_places outputs.now.items) p.0 p.1) (pairs n)) }
+        ≡ number (map (λ p. mask_of operands n wires.now (in_places outputs.now.items) p.0 p.1) (pairs n)) }
 {
     let mut mask: u32 = 0;
-    for p in 0..n * (n - 1) / 2 {
-        let (i, j) = pair_at(n, p);
+    for p in 0..pair_count(n as usize) as u8 {
+        let (i, j) = local_pair(n, p);
         mask += pair_bit(is_flipped(n, wires, outputs, operands, i, j), p);
     }
     mask
@@ -108,7 +110,7 @@ fn pair_bit(flipped: bool, p: u8) -> u32
 // Whether the fresh bit of the pair (i, j) is flipped.
 fn is_flipped(
     n: u8,
-    wires: &[LocalWire],
+    wires: &[Wire],
     outputs: &Places,
     operands: Operands,
     i: u8,
@@ -118,7 +120,7 @@ fn is_flipped(
     requires most { n ≤ 8 }
     requires row { i < j }
     requires column { j < n }
-    ensures { result ≡ mask_of operands n (wires_of wires.now) (in_places outputs.now.items) i j }
+    ensures { result ≡ mask_of operands n wires.now (in_places outputs.now.items) i j }
 {
     match operands {
         Operands::OfProduct(a, b) => products::is_flipped(n, wires, outputs, a, b, i, j),
@@ -129,7 +131,7 @@ fn is_flipped(
 // The same in a refresh of a.
 fn is_flipped_in_refresh(
     n: u8,
-    wires: &[LocalWire],
+    wires: &[Wire],
     outputs: &Places,
     a: Sides,
     i: u8,
@@ -137,7 +139,7 @@ fn is_flipped_in_refresh(
 ) -> bool
     requires row { i < 8 }
     requires column { j < 8 }
-    ensures { result ≡ refresh_mask n (wires_of wires.now) (in_places outputs.now.items) (operand_sides a) i j }
+    ensures { result ≡ refresh_mask n wires.now (in_places outputs.now.items) (operand_sides a) i j }
 {
     let i_changes = share_of(a.one, i) ^ share_of(a.two, i);
     let j_changes = share_of(a.one, j) ^ share_of(a.two, j);

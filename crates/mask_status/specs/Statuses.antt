@@ -5,17 +5,17 @@ use Rattle.mask_text.specs.declared.errors.Reason.TheVariants.{BadHeader, BadLin
 use Rattle.mask_status.specs.declared.status.Status.{Status}
 use Rattle.mask_status.specs.declared.status.Status.TheVariants.{Done, Refused, BadWords, BadText, TooLong, ReadFault, TapeFault, WriteFault, BadProbe, NoMemory}
 
-abbrev pub number_of : Status → ℕ
-number_of Done = 0
-number_of (Refused product source) = 1
-number_of (BadWords place) = 2
-number_of (BadText line reason) = 4
-number_of (TooLong limit) = 5
-number_of ReadFault = 6
-number_of TapeFault = 8
-number_of WriteFault = 9
-number_of (BadProbe place) = 10
-number_of NoMemory = 11
+abbrev pub status_number : Status → ℕ
+status_number Done = 0
+status_number (Refused product source) = 1
+status_number (BadWords place) = 2
+status_number (BadText line reason) = 4
+status_number (TooLong limit) = 5
+status_number ReadFault = 6
+status_number TapeFault = 8
+status_number WriteFault = 9
+status_number (BadProbe place) = 10
+status_number NoMemory = 11
 
 abbrev pub reason_text : Reason → List ℕ
 reason_text BadHeader = codes "bad-header"

@@ -3,7 +3,7 @@
 ghost use Rattle.std.specs.Prelude.{◌≡◌, ◌++◌, ◌+◌, ◌≤◌, length, codes, decimal};
 ghost use Rattle.arrayvec.specs.ArrayVec.{array_vec_len};
 ghost use Rattle.arrayvec.specs.ArrayString.{array_string_len};
-ghost use Rattle.mask_status.specs.Statuses.{number_of, text_of, reason_text};
+ghost use Rattle.mask_status.specs.Statuses.{status_number, text_of, reason_text};
 
 use arrayvec::ArrayString;
 use itoa::Buffer;
@@ -36,7 +36,7 @@ pub enum Status {
 
 /// The number that the program ends with.
 pub fn status_number(status: &Status) -> u8
-    ensures { result ≡ number_of status.now }
+    ensures { result ≡ status_number status.now }
 {
     match *status {
         Status::Done => 0,

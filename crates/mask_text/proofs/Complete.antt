@@ -9,8 +9,8 @@ use Rattle.mask_circuit.specs.declared.limits.TheConstants.{MAX_VALUES, MAX_OUTP
 use Rattle.mask_circuit.specs.Netlist.{Netlist, IsCircuit, AreGates, OperandsBelow, value_count, only_inputs}
 use Rattle.mask_circuit.specs.Labels.{NamedGroup, LabelledNetlist, IsLabelled, AreGroups, is_taken, sizes, with_plain_groups}
 use Rattle.mask_circuit.specs.Text.{Line, First, Second, Inputs, Input, Makes, Output, Out, End, line_words, first_front, second_front, first_lines, second_lines, output_lines}
-use Rattle.mask_text.specs.declared.place.Place.{Place}
-use Rattle.mask_text.specs.declared.place.Place.TheVariants.{Size, Plain, Named, Ended}
+use Rattle.mask_text.specs.declared.section.Section.{Section}
+use Rattle.mask_text.specs.declared.section.Section.TheVariants.{Size, Plain, Named, Ended}
 use Rattle.mask_text.specs.declared.errors.Reason.{Reason}
 use Rattle.mask_text.specs.Lines.{text_lines, spoken}
 use Rattle.mask_text.specs.Text.{IsText}
@@ -21,8 +21,8 @@ use Rattle.mask_text.proofs.Run.{right_part, ended, run, run_on, run-kept}
 
 -- reading over the lines themselves
 unfoldable lead : Draft → List Line → Option LabelledNetlist
-lead d [] = ended d.place d.so_far
-lead d (line ∷ lines) = run_on (λ next. lead next lines) (unless_misplaced d line (goes_on d.place d.so_far line))
+lead d [] = ended d.section d.so_far
+lead d (line ∷ lines) = run_on (λ next. lead next lines) (unless_misplaced d line (goes_on d.section d.so_far line))
 
 -- all lines are small
 abbrev pub AllSmall : List Line → Type 0
@@ -39,10 +39,10 @@ run-lead [] d small = refl
 run-lead (line ∷ lines) d small =
     ap (λ o. run_on (λ next. run next (map line_words lines)) (unless_unsaid d o)) (said-again line small.0)
     ∙ run_on-both (λ next. run next (map line_words lines)) (λ next. lead next lines) (λ next. run-lead lines next small.1)
-    (unless_misplaced d line (goes_on d.place d.so_far line))
+    (unless_misplaced d line (goes_on d.section d.so_far line))
 
 -- a line that may stand there and is right
-lead-step : (d : Draft) (line : Line) (next : Draft) (after : List Line) → goes_on d.place d.so_far line ≡ Some next → wrong d.so_far line ≡ None
+lead-step : (d : Draft) (line : Line) (next : Draft) (after : List Line) → goes_on d.section d.so_far line ≡ Some next → wrong d.so_far line ≡ None
     → lead d (line ∷ after) ≡ lead next after
 unfolding lead
 lead-step d line next after goes right =
@@ -53,7 +53,7 @@ right_none : (l : LabelledNetlist) (line : Line) → has_taken_name l line ≡ f
 unfolding wrong
 right_none l line fresh known within = rw (fresh, known, within) refl
 
-if_so-true : (b : Bool) (p : Place) (l : LabelledNetlist) → b ≡ true → if_so b p l ≡ Some (at p l)
+if_so-true : (b : Bool) (p : Section) (l : LabelledNetlist) → b ≡ true → if_so b p l ≡ Some (at p l)
 if_so-true true p l e = refl
 if_so-true false p l e = cc
 
@@ -92,7 +92,7 @@ inputs-go (g ∷ gs) ins n after are room few =
     ∙ ap₂ (λ m xs. lead (at Named (with_inputs m xs)) after) sum (append_assoc ins (g ∷ []) gs)
 
 -- the gates, in either version
-module _ (p : Place) (n : ℕ) (ins : List NamedGroup) where
+module _ (p : Section) (n : ℕ) (ins : List NamedGroup) where
   with_gates : List Gate → LabelledNetlist
   with_gates gs = record { circuit = record { inputs = n; gates = gs; outputs = [] }; inputs = ins; outputs = [] }
 
@@ -116,7 +116,7 @@ module _ (p : Place) (n : ℕ) (ins : List NamedGroup) where
       ∙ ap (λ xs. lead (at p (with_gates xs)) after) (append_assoc gs (h ∷ []) hs)
 
 -- the outputs, in either version, up to as many as may stand there
-module _ (p : Place) (n : ℕ) (gates : List Gate) (ins outs : List NamedGroup) where
+module _ (p : Section) (n : ℕ) (gates : List Gate) (ins outs : List NamedGroup) where
   with_outs : List ℕ → LabelledNetlist
   with_outs us = record { circuit = record { inputs = n; gates = gates; outputs = us }; inputs = ins; outputs = outs }
 
@@ -217,8 +217,8 @@ lead-second l is =
     ∙ ap (λ xs. ins ++ xs) (append_assoc gates outs (End ∷ [])))
     ∙ inputs-go l.inputs [] 0 (gates ++ (outs ++ End ∷ [])) is.inputs (omega arith) (omega arith)
     ∙ ap (λ m. lead (at Named (with_inputs m l.inputs)) (gates ++ (outs ++ End ∷ []))) sum
-    ∙ gates_named c.inputs l.inputs c.gates (outs ++ End ∷ []) circuit.gates values
-    ∙ groups-go c.inputs c.gates l.inputs l.outputs [] [] c.outputs (End ∷ []) is.outputs (omega arith) refl all_outputs (omega arith) circuit.outputs
+    ∙ gates_named c.inputs l.inputs c.gates (outs ++ End ∷ []) circuit.formed.gates values
+    ∙ groups-go c.inputs c.gates l.inputs l.outputs [] [] c.outputs (End ∷ []) is.outputs (omega arith) refl all_outputs (omega arith) circuit.formed.outputs
     ∙ end_named l all_outputs
 
 -- all of version 1
@@ -256,8 +256,8 @@ lead-first c is =
     let outs = map Out c.outputs in
     begin_first c.inputs ((gates ++ outs) ++ End ∷ []) (omega arith)
     ∙ ap (lead (at Plain (of_inputs c.inputs))) (append_assoc gates outs (End ∷ []))
-    ∙ gates_plain c.inputs c.gates (outs ++ End ∷ []) is.gates values
-    ∙ outs_plain c (End ∷ []) is.outputs is.few_outputs
+    ∙ gates_plain c.inputs c.gates (outs ++ End ∷ []) is.formed.gates values
+    ∙ outs_plain c (End ∷ []) is.formed.outputs is.few_outputs
     ∙ end_plain c
 
 -- all lines of a circuit are small
@@ -309,8 +309,8 @@ small-first c is =
       (
         (let small : c.inputs < 10 ^ 9 = omega arith in small),
         small-append (map Makes c.gates ++ map Out c.outputs) (End ∷ [])
-            (small-append (map Makes c.gates) (map Out c.outputs) (small-gates c.inputs c.gates is.gates values)
-            (small-outs _ c.outputs values is.outputs)) end_small,
+            (small-append (map Makes c.gates) (map Out c.outputs) (small-gates c.inputs c.gates is.formed.gates values)
+            (small-outs _ c.outputs values is.formed.outputs)) end_small,
       ),
     )
 
@@ -329,8 +329,8 @@ small-second l is =
       tt,
       small-append (ins ++ (gates ++ outs)) (End ∷ [])
           (small-append ins (gates ++ outs) (small-inputs [] l.inputs is.inputs (omega arith))
-          (small-append gates outs (small-gates c.inputs c.gates circuit.gates values)
-          (small-output_lines _ [] l.outputs c.outputs is.outputs (omega arith) values circuit.outputs))) end_small,
+          (small-append gates outs (small-gates c.inputs c.gates circuit.formed.gates values)
+          (small-output_lines _ [] l.outputs c.outputs is.outputs (omega arith) values circuit.formed.outputs))) end_small,
     )
 
 right_is : (r : Result LabelledNetlist Fault) (l : LabelledNetlist) → right_part r ≡ Some l → r ≡ Ok l

@@ -2,8 +2,8 @@
 use Rattle.std.proofs.Common.{◌≡◌, ℕ, ◌+◌, Bool, true, false, cond, List, [], ◌∷◌, Option, Some, None, Result, Ok, Err, refl, ap, ◌∙◌}
 use Rattle.mask_circuit.specs.Labels.{LabelledNetlist}
 use Rattle.mask_circuit.specs.Text.{Line}
-use Rattle.mask_text.specs.declared.place.Place.{Place}
-use Rattle.mask_text.specs.declared.place.Place.TheVariants.{Start, Size, Plain, Named, Ended}
+use Rattle.mask_text.specs.declared.section.Section.{Section}
+use Rattle.mask_text.specs.declared.section.Section.TheVariants.{Start, Size, Plain, Named, Ended}
 use Rattle.mask_text.specs.declared.errors.Reason.{Reason}
 use Rattle.mask_text.specs.Lines.{words, is_passed_over, kept}
 use Rattle.mask_text.specs.Sayings.{said}
@@ -13,19 +13,19 @@ abbrev pub right_part : Result LabelledNetlist Fault → Option LabelledNetlist
 right_part (Ok l) = Some l
 right_part (Err fault) = None
 
-abbrev pub ended : Place → LabelledNetlist → Option LabelledNetlist
+abbrev pub ended : Section → LabelledNetlist → Option LabelledNetlist
 ended Ended l = Some l
-ended place l = None
+ended section l = None
 
 abbrev pub run_on : (Draft → Option LabelledNetlist) → Result Draft Reason → Option LabelledNetlist
 run_on go (Ok d) = go d
 run_on go (Err reason) = None
 
 unfoldable pub run : Draft → List (List (List ℕ)) → Option LabelledNetlist
-run d [] = ended d.place d.so_far
+run d [] = ended d.section d.so_far
 run d (ws ∷ rest) = run_on (λ next. run next rest) (unless_unsaid d (said ws))
 
-ended-at_end : (p : Place) (l : LabelledNetlist) (n : ℕ) → right_part (at_end p l n) ≡ ended p l
+ended-at_end : (p : Section) (l : LabelledNetlist) (n : ℕ) → right_part (at_end p l n) ≡ ended p l
 ended-at_end Start l n = refl
 ended-at_end Size l n = refl
 ended-at_end Plain l n = refl
@@ -50,7 +50,7 @@ run_on-same n go go' same (Err reason) = refl
 
 pub run-kept : (lines : List (List ℕ)) (d : Draft) (n : ℕ) → right_part (read_from d n lines) ≡ run d (kept lines)
 unfolding read_from run
-run-kept [] d n = ended-at_end d.place d.so_far n
+run-kept [] d n = ended-at_end d.section d.so_far n
 run-kept (line ∷ lines) d n =
     run_on-same n (λ next. read_from next (n + 1) lines) (λ next. run next (kept lines)) (λ next. run-kept lines next (n + 1)) (step d (words line))
     ∙ run-step d (words line) (kept lines)
@@ -59,7 +59,7 @@ run-kept (line ∷ lines) d n =
 pub record Takes (d : Draft) (ws : List (List ℕ)) (next : Draft) : Type 0 where
   pub line : Line
   pub says : said ws ≡ Some line
-  pub goes : goes_on d.place d.so_far line ≡ Some next
+  pub goes : goes_on d.section d.so_far line ≡ Some next
   pub right : wrong d.so_far line ≡ None
 
 wrong-takes : (next next' : Draft) (o : Option Reason) → unless_wrong next o ≡ Ok next' → (o ≡ None) × (next ≡ next')
@@ -69,7 +69,7 @@ wrong-takes next next' (Some reason) e = cc
 pub step-takes : (d : Draft) (ws : List (List ℕ)) (next : Draft) → unless_unsaid d (said ws) ≡ Ok next → Takes d ws next
 step-takes d ws next e = by (said ws) refl e
   where
-    goes : (line : Line) (o : Option Draft) → said ws ≡ Some line → goes_on d.place d.so_far line ≡ o → unless_misplaced d line o ≡ Ok next
+    goes : (line : Line) (o : Option Draft) → said ws ≡ Some line → goes_on d.section d.so_far line ≡ o → unless_misplaced d line o ≡ Ok next
         → Takes d ws next
     goes line None says g f = cc
     goes line (Some found) says g f =
@@ -78,4 +78,4 @@ step-takes d ws next e = by (said ws) refl e
 
     by : (o : Option Line) → said ws ≡ o → unless_unsaid d o ≡ Ok next → Takes d ws next
     by None s f = cc
-    by (Some line) s f = goes line (goes_on d.place d.so_far line) s refl f
+    by (Some line) s f = goes line (goes_on d.section d.so_far line) s refl f

@@ -8,14 +8,16 @@ use Rattle.mask_circuit.specs.declared.labelled.TheConstants.{MAX_GROUPS}
 use Rattle.mask_circuit.specs.Netlist.{Netlist, IsCircuit, only_inputs}
 use Rattle.mask_circuit.specs.Labels.{LabelledNetlist, IsLabelled, AreGroups, is_taken, is_name, sizes, one_group, with_plain_groups}
 use Rattle.mask_circuit.specs.Text.{Line, First, Second, Inputs, Input, Makes, Output, Out, End, line_words, first_front, second_front, first_lines, second_lines}
-use Rattle.mask_text.specs.declared.place.Place.{Place}
-use Rattle.mask_text.specs.declared.place.Place.TheVariants.{Start, Size, Plain, Named, Ended}
+use Rattle.mask_text.specs.declared.section.Section.{Section}
+use Rattle.mask_text.specs.declared.section.Section.TheVariants.{Start, Size, Plain, Named, Ended}
 use Rattle.mask_text.specs.declared.errors.Reason.{Reason}
 use Rattle.mask_text.specs.Lines.{text_lines, spoken}
 use Rattle.mask_text.specs.Sayings.{said}
 use Rattle.mask_text.specs.Text.{IsText}
 use Rattle.mask_text.specs.Faults.{Draft, at, of_inputs, more_inputs, more_gate, more_outputs, more_out, is_full, has_no_gates, has_no_groups_out, if_so, goes_on, has_taken_name, is_known, is_within, at_start, reading, unless_unsaid}
-use Rattle.mask_text.proofs.Circuits.{operands_below, circuit-inputs, circuit-gate, circuit-out}
+use Rattle.mask_circuit.proofs.Growing.{IsCircuit-with_gate}
+use Rattle.mask_circuit.proofs.Plain.{IsLabelled-plain}
+use Rattle.mask_text.proofs.Circuits.{operands_below, circuit-inputs, circuit-out}
 use Rattle.mask_text.proofs.Groups.{sizes-push, length-push, AreGroups-push, IsOpen, open-none, open-push}
 use Rattle.mask_text.proofs.Fronts.{empty_list, first_front-gate, first_front-out, second_front-input, second_front-gate, second_front-group, second_front-out}
 use Rattle.mask_text.proofs.Rights.{IsRight, right_means}
@@ -39,40 +41,18 @@ abbrev Spells : LabelledNetlist → List Line → Type 0
 Spells l ls = (ls ≡ second_lines l) ⊎ ((l ≡ with_plain_groups l.circuit) × (ls ≡ first_lines l.circuit))
 
 -- what is known of the draft behind these lines
-abbrev Holds : Place → LabelledNetlist → List Line → Type 0
+abbrev Holds : Section → LabelledNetlist → List Line → Type 0
 Holds Start l ls = (l ≡ of_inputs 0) × (ls ≡ [])
 Holds Size l ls = ls ≡ First ∷ []
 Holds Plain l ls = IsCircuit l.circuit × (ls ≡ first_front l.circuit)
 Holds Named l ls = IsDraft l × (ls ≡ second_front l)
 Holds Ended l ls = IsLabelled l × Spells l ls
 
-sizes-one : (name : List ℕ) (n : ℕ) → sizes (one_group name n) ≡ n
-sizes-one name zero = refl
-sizes-one name (suc n) = omega arith
-
-few-one : (name : List ℕ) (n : ℕ) → length (one_group name n) ≤ 1000
-few-one name zero = omega arith
-few-one name (suc n) = omega arith
-
-are-one : (name : List ℕ) (n : ℕ) → is_name name ≡ true → AreGroups [] (one_group name n)
-unfolding is_taken
-are-one name zero named = tt
-are-one name (suc n) named = (named, (let some : 1 ≤ suc n = omega arith in some), refl, tt)
-
 pub plain-labelled : (c : Netlist) → IsCircuit c → IsLabelled (with_plain_groups c)
-unfolding is_name
-plain-labelled c is = record {
-  circuit = is;
-  inputs = are-one _ c.inputs refl;
-  few_inputs = few-one _ c.inputs;
-  all_inputs = sizes-one _ c.inputs;
-  outputs = are-one _ (length c.outputs) refl;
-  few_outputs = few-one _ (length c.outputs);
-  all_outputs = sizes-one _ (length c.outputs);
-}
+plain-labelled c is = IsLabelled-plain c _ _ is refl refl
 
 -- a test that a line had to pass
-if_passed : (b : Bool) (p : Place) (l : LabelledNetlist) (e : Draft) → if_so b p l ≡ Some e → (b ≡ true) × (at p l ≡ e)
+if_passed : (b : Bool) (p : Section) (l : LabelledNetlist) (e : Draft) → if_so b p l ≡ Some e → (b ≡ true) × (at p l ≡ e)
 if_passed true p l e f = (refl, cc)
 if_passed false p l e f = cc
 
@@ -117,7 +97,7 @@ draft-input l name n is small right no_gates no_groups =
 draft-gate : (l : LabelledNetlist) (g : Gate) → IsDraft l → IsRight l (Makes g) → IsDraft (more_gate l g)
 unfolding is_known is_within
 draft-gate l g is right = record {
-  circuit = circuit-gate l.circuit g is.circuit (operands_below _ g right.known) (ltb-true _ _ right.within);
+  circuit = IsCircuit-with_gate l.circuit g is.circuit (operands_below _ g right.known) (ltb-true _ _ right.within);
   inputs = is.inputs;
   few_inputs = is.few_inputs;
   all_inputs = is.all_inputs;
@@ -189,62 +169,62 @@ unfolding second_front
 begin_second l is = sym (ap second_front is)
 
 -- One more line that may stand there and is right keeps what is known.
-advance : (p : Place) (l : LabelledNetlist) (line : Line) (e : Draft) (ls : List Line) → Holds p l ls → IsSmall line
-    → goes_on p l line ≡ Some e → IsRight l line → Holds e.place e.so_far (ls ++ line ∷ [])
+advance : (p : Section) (l : LabelledNetlist) (line : Line) (e : Draft) (ls : List Line) → Holds p l ls → IsSmall line
+    → goes_on p l line ≡ Some e → IsRight l line → Holds e.section e.so_far (ls ++ line ∷ [])
 unfolding goes_on is_known is_within
-advance Start l First e ls h s g w = let same : at Size l ≡ e = cc in subst (λ d. Holds d.place d.so_far (ls ++ First ∷ [])) same
+advance Start l First e ls h s g w = let same : at Size l ≡ e = cc in subst (λ d. Holds d.section d.so_far (ls ++ First ∷ [])) same
     (ap (λ xs. xs ++ First ∷ []) h.1)
 advance Start l Second e ls h s g w =
     let same : at Named l ≡ e = cc in
-    subst (λ d. Holds d.place d.so_far (ls ++ Second ∷ [])) same
+    subst (λ d. Holds d.section d.so_far (ls ++ Second ∷ [])) same
     (subst IsDraft (sym h.0) draft-none, ap (λ xs. xs ++ Second ∷ []) h.1 ∙ begin_second l h.0)
 advance Size l (Inputs n) e ls h s g w =
     let same : at Plain (record l { circuit = only_inputs n }) ≡ e = cc in
-    subst (λ d. Holds d.place d.so_far (ls ++ Inputs n ∷ [])) same
+    subst (λ d. Holds d.section d.so_far (ls ++ Inputs n ∷ [])) same
     (circuit-inputs n (leb-true _ _ w.within), ap (λ xs. xs ++ Inputs n ∷ []) h ∙ begin_first n)
 advance Plain l (Makes gate) e ls h s g w =
     let passed = if_passed (eqb (length l.circuit.outputs) 0) Plain (more_gate l gate) e g in
     let none = empty_list l.circuit.outputs (eqb-true _ _ passed.0) in
-    subst (λ d. Holds d.place d.so_far (ls ++ Makes gate ∷ [])) passed.1 (
-      circuit-gate l.circuit gate h.0 (operands_below _ gate w.known) (ltb-true _ _ w.within),
+    subst (λ d. Holds d.section d.so_far (ls ++ Makes gate ∷ [])) passed.1 (
+      IsCircuit-with_gate l.circuit gate h.0 (operands_below _ gate w.known) (ltb-true _ _ w.within),
       ap (λ xs. xs ++ Makes gate ∷ []) h.1
           ∙ sym (first_front-gate l.circuit gate none),
     )
 advance Plain l (Out u) e ls h s g w =
     let same : at Plain (more_out l u) ≡ e = cc in
-    subst (λ d. Holds d.place d.so_far (ls ++ Out u ∷ [])) same
+    subst (λ d. Holds d.section d.so_far (ls ++ Out u ∷ [])) same
     (circuit-out l.circuit u h.0 (ltb-true _ _ w.known) (ltb-true _ _ w.within), ap (λ xs. xs ++ Out u ∷ []) h.1 ∙ sym (first_front-out l.circuit u))
 advance Plain l End e ls h s g w =
     let same : at Ended (with_plain_groups l.circuit) ≡ e = cc in
-    subst (λ d. Holds d.place d.so_far (ls ++ End ∷ [])) same
+    subst (λ d. Holds d.section d.so_far (ls ++ End ∷ [])) same
     (plain-labelled l.circuit h.0, inr (refl, ap (λ xs. xs ++ End ∷ []) h.1))
 advance Named l (Input name n) e ls h s g w =
     let passed = if_passed (has_no_gates l && has_no_groups_out l) Named (more_inputs l name n) e g in
     let parts = and_parts (has_no_gates l) (has_no_groups_out l) passed.0 in
     let no_gates = empty_list l.circuit.gates (eqb-true _ _ parts.0) in
     let no_groups = empty_list l.outputs (eqb-true _ _ parts.1) in
-    subst (λ d. Holds d.place d.so_far (ls ++ Input name n ∷ [])) passed.1
+    subst (λ d. Holds d.section d.so_far (ls ++ Input name n ∷ [])) passed.1
     (draft-input l name n h.0 s w no_gates no_groups, ap (λ xs. xs ++ Input name n ∷ []) h.1 ∙ sym (second_front-input l name n no_gates no_groups))
 advance Named l (Makes gate) e ls h s g w =
     let passed = if_passed (has_no_groups_out l) Named (more_gate l gate) e g in
     let no_groups = empty_list l.outputs (eqb-true _ _ passed.0) in
-    subst (λ d. Holds d.place d.so_far (ls ++ Makes gate ∷ [])) passed.1
+    subst (λ d. Holds d.section d.so_far (ls ++ Makes gate ∷ [])) passed.1
     (draft-gate l gate h.0 w, ap (λ xs. xs ++ Makes gate ∷ []) h.1 ∙ sym (second_front-gate l gate no_groups))
 advance Named l (Output name n) e ls h s g w =
     let passed = if_passed (is_full l) Named (more_outputs l name n) e g in
     let is = h.0 in
     let few = is.no_more in
-    subst (λ d. Holds d.place d.so_far (ls ++ Output name n ∷ [])) passed.1
+    subst (λ d. Holds d.section d.so_far (ls ++ Output name n ∷ [])) passed.1
     (draft-group l name n h.0 s w passed.0, ap (λ xs. xs ++ Output name n ∷ []) h.1 ∙ sym (second_front-group l name n few))
 advance Named l (Out u) e ls h s g w =
     let passed = if_passed (not (is_full l)) Named (more_out l u) e g in
     let is = h.0 in
     let missing = leb-false (sizes l.outputs) (length l.circuit.outputs) (not-true _ passed.0) in
-    subst (λ d. Holds d.place d.so_far (ls ++ Out u ∷ [])) passed.1
+    subst (λ d. Holds d.section d.so_far (ls ++ Out u ∷ [])) passed.1
     (draft-out l u h.0 w missing, ap (λ xs. xs ++ Out u ∷ []) h.1 ∙ sym (second_front-out l u is.open_outputs missing))
 advance Named l End e ls h s g w =
     let passed = if_passed (is_full l) Ended l e g in
-    subst (λ d. Holds d.place d.so_far (ls ++ End ∷ [])) passed.1
+    subst (λ d. Holds d.section d.so_far (ls ++ End ∷ [])) passed.1
     (labelled-draft l h.0 passed.0, inl (ap (λ xs. xs ++ End ∷ []) h.1))
 advance p l line e ls h s g w = cc
 
@@ -253,7 +233,7 @@ abbrev Says : LabelledNetlist → List (List (List ℕ)) → Type 0
 Says l wss = IsLabelled l × ((wss ≡ map line_words (second_lines l)) ⊎
     ((l ≡ with_plain_groups l.circuit) × (wss ≡ map line_words (first_lines l.circuit))))
 
-at_end_says : (p : Place) (so_far l : LabelledNetlist) (ls : List Line) → Holds p so_far ls → ended p so_far ≡ Some l
+at_end_says : (p : Section) (so_far l : LabelledNetlist) (ls : List Line) → Holds p so_far ls → ended p so_far ≡ Some l
     → Says l (map line_words ls ++ [])
 at_end_says Start so_far l ls h e = cc
 at_end_says Size so_far l ls h e = cc
@@ -269,15 +249,15 @@ at_end_says Ended so_far l ls h e =
     spelled (inr e) = inr (e.0, append-nil (map line_words ls) ∙ ap (map line_words) e.1)
 
 -- What is read of these words, behind these lines, is what they all stand for.
-run-says : (wss : List (List (List ℕ))) (d : Draft) (ls : List Line) (l : LabelledNetlist) → Holds d.place d.so_far ls → run d wss ≡ Some l
+run-says : (wss : List (List (List ℕ))) (d : Draft) (ls : List Line) (l : LabelledNetlist) → Holds d.section d.so_far ls → run d wss ≡ Some l
     → Says l (map line_words ls ++ wss)
 unfolding run
-run-says [] d ls l h e = at_end_says d.place d.so_far l ls h e
+run-says [] d ls l h e = at_end_says d.section d.so_far l ls h e
 run-says (ws ∷ wss) d ls l h e =
     let next = on_ok (unless_unsaid d (said ws)) refl e in
     let takes = step-takes d ws next.0 next.1 in
     let spelled = said-takes ws takes.line takes.says in
-    let held = advance d.place d.so_far takes.line next.0 ls h spelled.1 takes.goes (right_means d.so_far takes.line takes.right) in
+    let held = advance d.section d.so_far takes.line next.0 ls h spelled.1 takes.goes (right_means d.so_far takes.line takes.right) in
     let whole : map line_words (ls ++ takes.line ∷ []) ++ wss ≡ map line_words ls ++ (ws ∷ wss) =
     ap (λ xs. xs ++ wss) (map-append line_words ls (takes.line ∷ [])) ∙ append_assoc (map line_words ls) (line_words takes.line ∷ []) wss
     ∙ ap (λ xs. map line_words ls ++ (xs ∷ wss)) (sym spelled.0) in

@@ -8,8 +8,8 @@ use Rattle.mask_text.specs.declared.errors.Stop.{Stop}
 use Rattle.mask_text.specs.declared.errors.Stop.TheVariants.{Faulty, NoMemory}
 use Rattle.mask_text.specs.declared.reader.Reader.{Reader}
 use Rattle.mask_text.specs.Readers.{draft_of, GivesDraft, GivesStep, TellsFault, error_at}
-use Rattle.mask_text.specs.declared.place.Place.{Place}
-use Rattle.mask_text.specs.declared.place.Place.TheVariants.{Start, Size, Plain, Named, Ended}
+use Rattle.mask_text.specs.declared.section.Section.{Section}
+use Rattle.mask_text.specs.declared.section.Section.TheVariants.{Start, Size, Plain, Named, Ended}
 use Rattle.mask_text.specs.declared.errors.Reason.{Reason}
 use Rattle.mask_text.specs.declared.errors.Reason.TheVariants.{NoEnd}
 use Rattle.mask_text.specs.Lines.{text_lines, words, is_passed_over}
@@ -23,24 +23,24 @@ unfolding step
 step_over d ws over = cond-true _ _ _ over
 
 module _ (d : Draft) (ws : List (List ℕ)) (counts : is_passed_over ws ≡ false) where
-  pub step_unsaid : said ws ≡ None → step d ws ≡ Err (misplaced d.place)
+  pub step_unsaid : said ws ≡ None → step d ws ≡ Err (misplaced d.section)
   unfolding step
   step_unsaid s = cond-false _ _ _ counts ∙ ap (unless_unsaid d) s
 
-  pub step_misplaced : (line : Line) → said ws ≡ Some line → goes_on d.place d.so_far line ≡ None → step d ws ≡ Err (misplaced d.place)
+  pub step_misplaced : (line : Line) → said ws ≡ Some line → goes_on d.section d.so_far line ≡ None → step d ws ≡ Err (misplaced d.section)
   unfolding step
   step_misplaced line s g = cond-false _ _ _ counts ∙ ap (unless_unsaid d) s ∙ ap (unless_misplaced d line) g
 
-  pub step_on : (line : Line) (next : Draft) → said ws ≡ Some line → goes_on d.place d.so_far line ≡ Some next → step d ws
+  pub step_on : (line : Line) (next : Draft) → said ws ≡ Some line → goes_on d.section d.so_far line ≡ Some next → step d ws
       ≡ unless_wrong next (wrong d.so_far line)
   unfolding step
   step_on line next s g = cond-false _ _ _ counts ∙ ap (unless_unsaid d) s ∙ ap (unless_misplaced d line) g
 
-  pub step_wrong : (line : Line) (next : Draft) (reason : Reason) → said ws ≡ Some line → goes_on d.place d.so_far line ≡ Some next
+  pub step_wrong : (line : Line) (next : Draft) (reason : Reason) → said ws ≡ Some line → goes_on d.section d.so_far line ≡ Some next
       → wrong d.so_far line ≡ Some reason → step d ws ≡ Err reason
   step_wrong line next reason s g w = step_on line next s g ∙ ap (unless_wrong next) w
 
-  pub step_right : (line : Line) (next : Draft) → said ws ≡ Some line → goes_on d.place d.so_far line ≡ Some next
+  pub step_right : (line : Line) (next : Draft) → said ws ≡ Some line → goes_on d.section d.so_far line ≡ Some next
       → wrong d.so_far line ≡ None → step d ws ≡ Ok next
   step_right line next s g w = step_on line next s g ∙ ap (unless_wrong next) w
 
@@ -84,20 +84,20 @@ module _ (text : List ℕ) (d : Draft) (n : ℕ) (lines : List (List ℕ)) (same
   read_fault line rest reason e s =
       ap error_of (sym same ∙ ap (read_from d n) e ∙ ap (going_on n (λ next. read_from next (n + 1) rest)) s)
 
-  pub read_none : lines ≡ [] → (d.place ≡ Ended → ⊥) → fault text ≡ Some (fault_at n NoEnd)
+  pub read_none : lines ≡ [] → (d.section ≡ Ended → ⊥) → fault text ≡ Some (fault_at n NoEnd)
   unfolding read_from fault
-  read_none e open_still = ap error_of (sym same ∙ ap (read_from d n) e ∙ by d.place open_still)
+  read_none e open_still = ap error_of (sym same ∙ ap (read_from d n) e ∙ by d.section open_still)
     where
-      by : (p : Place) → (p ≡ Ended → ⊥) → at_end p d.so_far n ≡ Err (fault_at n NoEnd)
+      by : (p : Section) → (p ≡ Ended → ⊥) → at_end p d.so_far n ≡ Err (fault_at n NoEnd)
       by Start h = refl
       by Size h = refl
       by Plain h = refl
       by Named h = refl
       by Ended h = absurd (h refl)
 
-  pub read_done : lines ≡ [] → d.place ≡ Ended → reading text ≡ Ok d.so_far
+  pub read_done : lines ≡ [] → d.section ≡ Ended → reading text ≡ Ok d.so_far
   unfolding read_from
-  read_done e ended = sym (sym (ap (λ (p : Place). at_end p d.so_far n) ended) ∙ sym (ap (read_from d n) e) ∙ same)
+  read_done e ended = sym (sym (ap (λ (p : Section). at_end p d.so_far n) ended) ∙ sym (ap (read_from d n) e) ∙ same)
 
 -- a draft that was made is what the step makes
 pub gives_step : (result : Result (Unit {0}) Stop) (reader : Reader) (draft : Option Draft) (step : Result Draft Reason)

@@ -2,25 +2,23 @@
 use Rattle.std.specs.Prelude.{ℕ, ◌+◌, Bool, true, false, not, ◌&&◌, ◌==◌, nat_le, nat_lt, if◌then◌else◌, Option, Some, None, Result, Ok, Err, List, [], ◌∷◌, ◌++◌, length}
 use Rattle.mask_circuit.specs.declared.gates.Gate.{Gate}
 use Rattle.mask_circuit.specs.declared.gates.Gate.TheVariants.{Zero, One, Xor, Not, And, Ref}
-use Rattle.mask_circuit.specs.declared.limits.TheConstants.{MAX_VALUES, MAX_OUTPUTS}
-use Rattle.mask_circuit.specs.declared.labelled.TheConstants.{MAX_GROUPS}
 use Rattle.mask_circuit.specs.Netlist.{value_count, only_inputs, with_gate, with_output}
 use Rattle.mask_circuit.specs.Labels.{LabelledNetlist, is_taken, sizes, with_plain_groups}
 use Rattle.mask_circuit.specs.Text.{Line, First, Second, Inputs, Input, Makes, Output, Out, End}
 use Rattle.mask_text.specs.Lines.{text_lines, words, is_passed_over}
 use Rattle.mask_text.specs.Sayings.{said}
-use Rattle.mask_text.specs.declared.place.Place.{Place}
-use Rattle.mask_text.specs.declared.place.Place.TheVariants.{Start, Size, Plain, Named, Ended}
+use Rattle.mask_text.specs.declared.section.Section.{Section}
+use Rattle.mask_text.specs.declared.section.Section.TheVariants.{Start, Size, Plain, Named, Ended}
 use Rattle.mask_text.specs.declared.errors.Reason.{Reason}
 use Rattle.mask_text.specs.declared.errors.Reason.TheVariants.{BadHeader, BadLine, UnknownValue, NoEnd, AfterEnd, TooManyValues, BadName}
 
 -- where in the text the next line stands, and the labelled circuit that the lines before it stand for
 pub record Draft : Type 0 where
-  pub place : Place
+  pub section : Section
   pub so_far : LabelledNetlist
 
-abbrev pub at : Place → LabelledNetlist → Draft
-at place l = record { place = place; so_far = l }
+abbrev pub at : Section → LabelledNetlist → Draft
+at section l = record { section = section; so_far = l }
 
 abbrev pub of_inputs : ℕ → LabelledNetlist
 of_inputs n = record { circuit = only_inputs n; inputs = []; outputs = [] }
@@ -52,12 +50,12 @@ has_no_gates l = length l.circuit.gates == 0
 abbrev pub has_no_groups_out : LabelledNetlist → Bool
 has_no_groups_out l = length l.outputs == 0
 
-abbrev pub if_so : Bool → Place → LabelledNetlist → Option Draft
-if_so test place l = if test then Some (at place l) else None
+abbrev pub if_so : Bool → Section → LabelledNetlist → Option Draft
+if_so test section l = if test then Some (at section l) else None
 
--- The table of lines that may stand at a place, and what the text stands for with that line. In version 2 inputs come
+-- The table of lines that may stand in a section, and what the text stands for with that line. In version 2 inputs come
 -- first, then gates, then outputs; a group of outputs comes only where no output is missing in those before it.
-unfoldable pub goes_on : Place → LabelledNetlist → Line → Option Draft
+unfoldable pub goes_on : Section → LabelledNetlist → Line → Option Draft
 goes_on Start l First = Some (at Size l)
 goes_on Start l Second = Some (at Named l)
 goes_on Size l (Inputs n) = Some (at Plain (record l { circuit = only_inputs n }))
@@ -69,10 +67,10 @@ goes_on Named l (Makes gate) = if_so (has_no_groups_out l) Named (more_gate l ga
 goes_on Named l (Output name n) = if_so (is_full l) Named (more_outputs l name n)
 goes_on Named l (Out u) = if_so (not (is_full l)) Named (more_out l u)
 goes_on Named l End = if_so (is_full l) Ended l
-goes_on place l line = None
+goes_on section l line = None
 
--- what is wrong with a line that may not stand at this place
-abbrev pub misplaced : Place → Reason
+-- what is wrong with a line that may not stand in this section
+abbrev pub misplaced : Section → Reason
 misplaced Start = BadHeader
 misplaced Size = BadHeader
 misplaced Plain = BadLine
@@ -100,13 +98,13 @@ is_known l (Makes gate) = are_below (value_count l.circuit) gate
 is_known l (Out u) = nat_lt u (value_count l.circuit)
 is_known l line = true
 
--- with it the circuit passes no limit
+-- with it the circuit has at most 1,000,000 values and 1,000,000 outputs, and at most 1,000 groups of either
 unfoldable pub is_within : LabelledNetlist → Line → Bool
-is_within l (Inputs n) = nat_le n MAX_VALUES
-is_within l (Input name n) = nat_lt (length l.inputs) MAX_GROUPS && nat_le (l.circuit.inputs + n) MAX_VALUES
-is_within l (Makes gate) = nat_lt (value_count l.circuit) MAX_VALUES
-is_within l (Output name n) = nat_lt (length l.outputs) MAX_GROUPS && nat_le (sizes l.outputs + n) MAX_OUTPUTS
-is_within l (Out u) = nat_lt (length l.circuit.outputs) MAX_OUTPUTS
+is_within l (Inputs n) = nat_le n 1_000_000
+is_within l (Input name n) = nat_lt (length l.inputs) 1_000 && nat_le (l.circuit.inputs + n) 1_000_000
+is_within l (Makes gate) = nat_lt (value_count l.circuit) 1_000_000
+is_within l (Output name n) = nat_lt (length l.outputs) 1_000 && nat_le (sizes l.outputs + n) 1_000_000
+is_within l (Out u) = nat_lt (length l.circuit.outputs) 1_000_000
 is_within l line = true
 
 -- what is wrong with a line that may stand where it does
@@ -121,12 +119,12 @@ unless_wrong d None = Ok d
 unless_wrong d (Some reason) = Err reason
 
 abbrev pub unless_misplaced : Draft → Line → Option Draft → Result Draft Reason
-unless_misplaced d line None = Err (misplaced d.place)
+unless_misplaced d line None = Err (misplaced d.section)
 unless_misplaced d line (Some next) = unless_wrong next (wrong d.so_far line)
 
 abbrev pub unless_unsaid : Draft → Option Line → Result Draft Reason
-unless_unsaid d None = Err (misplaced d.place)
-unless_unsaid d (Some line) = unless_misplaced d line (goes_on d.place d.so_far line)
+unless_unsaid d None = Err (misplaced d.section)
+unless_unsaid d (Some line) = unless_misplaced d line (goes_on d.section d.so_far line)
 
 -- the same for the words of any line
 unfoldable pub step : Draft → List (List ℕ) → Result Draft Reason
@@ -141,9 +139,9 @@ abbrev pub fault_at : ℕ → Reason → Fault
 fault_at n reason = record { line = n; reason = reason }
 
 -- the text ends here
-abbrev pub at_end : Place → LabelledNetlist → ℕ → Result LabelledNetlist Fault
+abbrev pub at_end : Section → LabelledNetlist → ℕ → Result LabelledNetlist Fault
 at_end Ended l n = Ok l
-at_end place l n = Err (fault_at n NoEnd)
+at_end section l n = Err (fault_at n NoEnd)
 
 abbrev pub going_on : ℕ → (Draft → Result LabelledNetlist Fault) → Result Draft Reason → Result LabelledNetlist Fault
 going_on n go (Ok d) = go d
@@ -151,7 +149,7 @@ going_on n go (Err reason) = Err (fault_at n reason)
 
 -- Reads lines, of which the first has the number n. A text that ends without an end is at fault behind its last line.
 unfoldable pub read_from : Draft → ℕ → List (List ℕ) → Result LabelledNetlist Fault
-read_from d n [] = at_end d.place d.so_far n
+read_from d n [] = at_end d.section d.so_far n
 read_from d n (line ∷ lines) = going_on n (λ next. read_from next (n + 1) lines) (step d (words line))
 
 abbrev pub at_start : Draft

@@ -1,8 +1,8 @@
 -- What contracts say of a reader.
 use Rattle.std.specs.Prelude.{◌≡◌, ℕ, ◌≤◌, Result, Ok, Err, Option, Some, length}
 use Rattle.mask_circuit.specs.Labels.{LabelledNetlist, sizes}
-use Rattle.mask_text.specs.declared.place.Place.{Place}
-use Rattle.mask_text.specs.declared.place.Place.TheVariants.{Start, Size, Plain, Named, Ended}
+use Rattle.mask_text.specs.declared.section.Section.{Section}
+use Rattle.mask_text.specs.declared.section.Section.TheVariants.{Start, Size, Plain, Named, Ended}
 use Rattle.mask_text.specs.declared.errors.Reason.{Reason}
 use Rattle.mask_text.specs.declared.errors.Stop.{Stop}
 use Rattle.mask_text.specs.declared.errors.Stop.TheVariants.{Faulty, NoMemory}
@@ -16,10 +16,10 @@ abbrev pub labelled_of : Reader → LabelledNetlist
 labelled_of r = record { circuit = r.builder; inputs = r.inputs.items; outputs = r.outputs.items }
 
 abbrev pub draft_of : Reader → Draft
-draft_of r = at r.place (labelled_of r)
+draft_of r = at r.section (labelled_of r)
 
 -- where groups are named, no output stands outside of them
-abbrev pub IsFilled : Place → ℕ → ℕ → Type 0
+abbrev pub IsFilled : Section → ℕ → ℕ → Type 0
 IsFilled Start outputs promised = outputs ≤ promised
 IsFilled Size outputs promised = Unit {0}
 IsFilled Plain outputs promised = Unit {0}
@@ -29,7 +29,7 @@ IsFilled Ended outputs promised = Unit {0}
 -- a reader keeps count of the outputs that its groups stand for
 pub record IsReading (r : Reader) : Type 0 where
   pub promised : r.promised ≡ sizes r.outputs.items
-  pub filled : IsFilled r.place (length r.builder.outputs) r.promised
+  pub filled : IsFilled r.section (length r.builder.outputs) r.promised
 
 -- The reader has taken the line that makes this draft, unless memory ran out.
 abbrev pub GivesDraft : Result (Unit {0}) Stop → Reader → Option Draft → Type 0

@@ -13,7 +13,7 @@ use std::alloc::{AllocError, AllocFailed};
 pub enum Reason {
     /// The first line isn't a header, or in version 1 the second isn't `inputs n`.
     BadHeader,
-    /// The line isn't of a form that is allowed at its place.
+    /// The line isn't of a form that is allowed in its section.
     BadLine,
     /// An operand isn't a value so far.
     UnknownValue,

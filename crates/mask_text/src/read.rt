@@ -1,6 +1,6 @@
 //! Reading a text.
 
-ghost use Rattle.std.specs.Prelude.{◌≡◌, ◌≤◌, length, IfOk, IfErr};
+ghost use Rattle.std.specs.Prelude.{◌≡◌, ◌^◌, ◌≤◌, length, IfOk, IfErr};
 ghost use Rattle.mask_text.specs.Faults.{fault, fault_at};
 ghost use Rattle.mask_text.specs.Readers.{TellsFault, error_at};
 ghost use Rattle.mask_text.specs.Text.{IsText};
@@ -25,9 +25,9 @@ impl TextError {
     }
 }
 
-/// Reads a labelled circuit from the whole of a text.
+/// Reads a labelled circuit from the whole of a text of at most 2^25 bytes.
 pub fn read_text(alloc: Global, text: &[u8]) -> Result<Labelled, TextError>
-    requires { length text.now ≤ MAX_TEXT }
+    requires { length text.now ≤ 2 ^ 25 }
     ensures found { IfOk result (λ l. IsText text.now l) }
     ensures bad { IfErr result (λ e. TellsFault e (fault text.now)) }
 {

@@ -1,13 +1,12 @@
 //! A reader takes the lines of a text one by one.
 
 ghost use Rattle.std.specs.Prelude.{◌≡◌, ℕ, ◌+◌, ◌<◌, ◌≤◌, ◌↔◌, [], true, false, nat_le, length, is_some, Some, None, IsTrue, IsSome, IfErr, OnOk};
-ghost use Rattle.mask_circuit.specs.declared.limits.TheConstants.{MAX_VALUES, MAX_OUTPUTS};
 ghost use Rattle.mask_circuit.specs.Netlist.{value_count, only_inputs};
 ghost use Rattle.mask_circuit.specs.Labels.{is_name, is_taken, IsLabelled, with_plain_groups};
 ghost use Rattle.mask_text.specs.Lines.{words, words_of, is_passed_over};
 ghost use Rattle.mask_text.specs.Says.{line_of, HasNameInForm};
 ghost use Rattle.mask_circuit.specs.Text.{End};
-ghost use Rattle.mask_text.specs.declared.place.Place.TheVariants.{Plain, Ended};
+ghost use Rattle.mask_text.specs.declared.section.Section.TheVariants.{Plain, Ended};
 ghost use Rattle.mask_text.specs.declared.errors.Stop.TheVariants.{NoMemory};
 ghost use Rattle.mask_text.specs.Faults as faults;
 ghost use Rattle.mask_text.specs.Readers.{draft_of, labelled_of, IsReading, GivesDraft, GivesStep};
@@ -15,16 +14,16 @@ ghost use Rattle.mask_text.specs.Readers.{draft_of, labelled_of, IsReading, Give
 use crate::errors::{Reason, Stop};
 use crate::lines::bare;
 use crate::names::name_of;
-use crate::place::Place;
 use crate::said::Said;
 use crate::sayings::{is_passed_over, meaning};
+use crate::section::Section;
 use mask_circuit::{Builder, Gate, Group, Labelled, MAX_GROUPS, MAX_OUTPUTS, MAX_VALUES};
 use std::alloc::Global;
 
 /// The circuit and the groups that the lines so far stand for.
 #[derive(Drop)]
 pub struct Reader {
-    place: Place,
+    section: Section,
     builder: Builder,
     inputs: Vec<Group>,
     outputs: Vec<Group>,
@@ -65,7 +64,7 @@ impl Reader {
         ensures reading { IsReading result }
     {
         Reader {
-            place: Place::Start,
+            section: Section::Start,
             builder: Builder::new(alloc, 0).unwrap(),
             inputs: Vec::new(alloc),
             outputs: Vec::new(alloc),
@@ -84,24 +83,24 @@ impl Reader {
     #[tactic(auto, unfolding(crate::specs::Faults::goes_on))]
     fn may_follow(&self, said: Said) -> bool
         requires { IsReading self.now }
-        ensures { result ≡ is_some (faults.goes_on self.now.place (labelled_of self.now) (line_of said.entry)) }
+        ensures { result ≡ is_some (faults.goes_on self.now.section (labelled_of self.now) (line_of said.entry)) }
     {
-        match self.place {
-            Place::Start => matches!(said, Said::First | Said::Second),
-            Place::Size => matches!(said, Said::Inputs(_)),
-            Place::Plain => match said {
+        match self.section {
+            Section::Start => matches!(said, Said::First | Said::Second),
+            Section::Size => matches!(said, Said::Inputs(_)),
+            Section::Plain => match said {
                 Said::Makes(_) => self.builder.output_count() == 0,
                 Said::Out(_) | Said::End => true,
                 _ => false,
             },
-            Place::Named => match said {
+            Section::Named => match said {
                 Said::Input(_, _) => !self.builder.has_gates() && self.outputs.is_empty(),
                 Said::Makes(_) => self.outputs.is_empty(),
                 Said::Output(_, _) | Said::End => self.is_full(),
                 Said::Out(_) => !self.is_full(),
                 _ => false,
             },
-            Place::Ended => false,
+            Section::Ended => false,
         }
     }
 
@@ -167,7 +166,7 @@ impl Reader {
     fn add_gate(&mut self, gate: Gate) -> Result<(), Stop>
         requires known { faults.are_below (value_count self.old.builder) gate ≡ true }
         ensures added { OnOk result (labelled_of self.new ≡ faults.more_gate (labelled_of self.old) gate) }
-        ensures place { OnOk result (self.new.place ≡ self.old.place) }
+        ensures section { OnOk result (self.new.section ≡ self.old.section) }
         ensures promised { OnOk result (self.new.promised ≡ self.old.promised) }
         ensures refused { IfErr result (λ e. e ≡ NoMemory) }
     {
@@ -185,7 +184,7 @@ impl Reader {
     fn add_out(&mut self, u: u32) -> Result<(), Stop>
         requires known { u < value_count self.old.builder }
         ensures added { OnOk result (labelled_of self.new ≡ faults.more_out (labelled_of self.old) u) }
-        ensures place { OnOk result (self.new.place ≡ self.old.place) }
+        ensures section { OnOk result (self.new.section ≡ self.old.section) }
         ensures promised { OnOk result (self.new.promised ≡ self.old.promised) }
         ensures refused { IfErr result (λ e. e ≡ NoMemory) }
     {
@@ -198,9 +197,9 @@ impl Reader {
         requires named { is_name name.now ≡ true }
         requires no_gates { self.old.builder.gates ≡ [] }
         requires no_outputs { self.old.builder.outputs ≡ [] }
-        requires few { self.old.builder.inputs + size ≤ MAX_VALUES }
+        requires few { self.old.builder.inputs + size ≤ 1_000_000 }
         ensures added { OnOk result (labelled_of self.new ≡ faults.more_inputs (labelled_of self.old) name.now size) }
-        ensures place { OnOk result (self.new.place ≡ self.old.place) }
+        ensures section { OnOk result (self.new.section ≡ self.old.section) }
         ensures promised { OnOk result (self.new.promised ≡ self.old.promised) }
         ensures refused { IfErr result (λ e. e ≡ NoMemory) }
     {
@@ -215,9 +214,9 @@ impl Reader {
 
     fn add_output(&mut self, name: &[u8], size: u32) -> Result<(), Stop>
         requires named { is_name name.now ≡ true }
-        requires few { self.old.promised + size ≤ MAX_OUTPUTS }
+        requires few { self.old.promised + size ≤ 1_000_000 }
         ensures added { OnOk result (labelled_of self.new ≡ faults.more_outputs (labelled_of self.old) name.now size) }
-        ensures place { OnOk result (self.new.place ≡ self.old.place) }
+        ensures section { OnOk result (self.new.section ≡ self.old.section) }
         ensures promised { OnOk result (self.new.promised ≡ self.old.promised + size) }
         ensures refused { IfErr result (λ e. e ≡ NoMemory) }
     {
@@ -230,12 +229,12 @@ impl Reader {
     }
 
     fn set_inputs(&mut self, alloc: Global, count: u32) -> Result<(), Stop>
-        requires few { count ≤ MAX_VALUES }
+        requires few { count ≤ 1_000_000 }
         requires reading { IsReading self.old }
         ensures { GivesDraft result self.new (Some (faults.at Plain (record (labelled_of self.old) { circuit = only_inputs count }))) }
     {
         self.builder = Builder::new(alloc, count)?;
-        self.place = Place::Plain;
+        self.section = Section::Plain;
         Ok(())
     }
 
@@ -249,33 +248,33 @@ impl Reader {
         self.inputs = inputs;
         self.outputs = outputs;
         self.promised = count;
-        self.place = Place::Ended;
+        self.section = Section::Ended;
         Ok(())
     }
 
     #[tactic(auto, unfolding(crate::specs::Faults::goes_on))]
     fn end(&mut self, alloc: Global) -> Result<(), Stop>
         requires reading { IsReading self.old }
-        requires follows { IsSome (faults.goes_on self.old.place (labelled_of self.old) End) }
-        ensures { GivesDraft result self.new (faults.goes_on self.old.place (labelled_of self.old) End) }
+        requires follows { IsSome (faults.goes_on self.old.section (labelled_of self.old) End) }
+        ensures { GivesDraft result self.new (faults.goes_on self.old.section (labelled_of self.old) End) }
     {
-        if let Place::Plain = self.place {
+        if let Section::Plain = self.section {
             return self.end_plain(alloc);
         }
-        self.place = Place::Ended;
+        self.section = Section::Ended;
         Ok(())
     }
 
     fn apply(&mut self, alloc: Global, said: Said) -> Result<(), Stop>
         requires reading { IsReading self.old }
-        requires follows { IsSome (faults.goes_on self.old.place (labelled_of self.old) (line_of said)) }
+        requires follows { IsSome (faults.goes_on self.old.section (labelled_of self.old) (line_of said)) }
         requires right { faults.wrong (labelled_of self.old) (line_of said) ≡ None }
         requires in_form { HasNameInForm (line_of said) }
-        ensures { GivesDraft result self.new (faults.goes_on self.old.place (labelled_of self.old) (line_of said.entry)) }
+        ensures { GivesDraft result self.new (faults.goes_on self.old.section (labelled_of self.old) (line_of said.entry)) }
     {
         match said {
-            Said::First => self.place = Place::Size,
-            Said::Second => self.place = Place::Named,
+            Said::First => self.section = Section::Size,
+            Said::Second => self.section = Section::Named,
             Said::Inputs(n) => self.set_inputs(alloc, n)?,
             Said::Input(name, n) => self.add_input(alloc, name, n)?,
             Said::Makes(gate) => self.add_gate(gate)?,
@@ -287,12 +286,12 @@ impl Reader {
     }
 
     fn misplaced(&self) -> Reason
-        ensures { result ≡ faults.misplaced self.now.place }
+        ensures { result ≡ faults.misplaced self.now.section }
     {
-        match self.place {
-            Place::Start | Place::Size => Reason::BadHeader,
-            Place::Plain | Place::Named => Reason::BadLine,
-            Place::Ended => Reason::AfterEnd,
+        match self.section {
+            Section::Start | Section::Size => Reason::BadHeader,
+            Section::Plain | Section::Named => Reason::BadLine,
+            Section::Ended => Reason::AfterEnd,
         }
     }
 
@@ -327,9 +326,9 @@ impl Reader {
 
     /// Whether `end` was read.
     pub fn has_ended(&self) -> bool
-        ensures { IsTrue result ↔ (self.now.place ≡ Ended) }
+        ensures { IsTrue result ↔ (self.now.section ≡ Ended) }
     {
-        self.place == Place::Ended
+        self.section == Section::Ended
     }
 
     /// The labelled circuit.

@@ -37,7 +37,7 @@ fn read_all<S: Source>(alloc: Global, source: &mut S) -> Result<Vec<u8>, TextErr
 
 /// Reads a labelled circuit from all that is left of a source.
 ///
-/// The source is read to its end, or until a read fails or more than `MAX_TEXT` bytes came.
+/// The source is read to its end, or until a read fails or more than 2^25 bytes came.
 pub fn read_labelled<S: Source>(alloc: Global, source: &mut S) -> Result<Labelled, TextError>
     ensures always { IfSome (S.left source.old) (λ bytes. IsAnswerTo (λ l. l) bytes result) }
     ensures only { Answers (λ l bytes. IsText bytes l) result

@@ -1,6 +1,9 @@
+ghost use Rattle.std.specs.Prelude.{◌<◌};
+
 use super::*;
 use mask_circuit::Labelled;
 use mask_io::{MemSink, MemSource};
+use std::alloc::{AllocError, Global};
 use std::test::Fail;
 
 // Products are refreshed here, as a masked evaluation wants them.
@@ -115,9 +118,9 @@ fn reads_and_writes(rt: HostRuntime) -> Result<(), Fail> {
 // A line feed more than the longest text; a read that fails; a sink that is full.
 #[test]
 fn tells_what_failed(rt: HostRuntime) -> Result<(), Fail> {
-    let bytes = vec![in rt.alloc(); b'\n'; MAX_TEXT + 1]?;
-    let mut long = MemSource::new(bytes, MAX_TEXT, Vec::new(rt.alloc()));
-    let limit = MAX_TEXT as u64;
+    let bytes = vec![in rt.alloc(); b'\n'; 33_554_433]?;
+    let mut long = MemSource::new(bytes, 33_554_432, Vec::new(rt.alloc()));
+    let limit = 33_554_432;
     assert_eq!(rt;
         read_circuit(rt.alloc(), &mut long).err(),
         Some(TextError::TooLong { limit })
@@ -133,5 +136,61 @@ fn tells_what_failed(rt: HostRuntime) -> Result<(), Fail> {
     let mut full = MemSink::new(rt.alloc(), 20, 64, Vec::new(rt.alloc()))?;
     assert_eq!(rt; write_circuit(&circuit, &mut full), Err(WriteFault));
     assert_eq!(rt; full.bytes(), "masked-circuit 1\ninp".as_bytes());
+    Ok(())
+}
+
+// A line of a group whose name has two letters.
+fn push_group(
+    text: &mut Vec<u8>,
+    before: &[u8],
+    group: u8,
+    after: &[u8],
+) -> Result<(), AllocError>
+    requires { group < 60 }
+{
+    text.extend_from_slice(before)?;
+    text.push(b'a' + group / 26)?;
+    text.push(b'a' + group % 26)?;
+    text.extend_from_slice(after)?;
+    Ok(())
+}
+
+// 60 groups of 1,000 inputs, 100,000 gates, and 60 groups of one output, as the writer spells them.
+fn large_text(alloc: Global) -> Result<Vec<u8>, AllocError> {
+    let mut text = Vec::from_slice(alloc, b"masked-circuit 2\n")?;
+    for group in 0..60 {
+        push_group(&mut text, b"input ", group, b" 1000\n")?;
+    }
+    for _gate in 0..100_000 {
+        text.extend_from_slice(b"xor 0 59999\n")?;
+    }
+    for group in 0..60 {
+        push_group(&mut text, b"output ", group, b" 1\nout 159999\n")?;
+    }
+    text.extend_from_slice(b"end\n")?;
+    Ok(text)
+}
+
+// Before the text stands a comment of 80 bytes ff.
+#[test]
+fn reads_and_writes_at_size(rt: HostRuntime) -> Result<(), Fail> {
+    let text = large_text(rt.alloc())?;
+    let mut bytes = Vec::from_slice(rt.alloc(), b"#")?;
+    bytes.extend_from_slice([0xff; 80].as_slice())?;
+    bytes.push(b'\n')?;
+    bytes.extend_from_slice(&text)?;
+    let mut source = MemSource::new(bytes, 4_096, Vec::new(rt.alloc()));
+    let labelled = read_labelled(rt.alloc(), &mut source)?;
+    assert_eq!(rt; labelled.circuit().gates().len(), 100_000);
+    let mut sink = MemSink::new(rt.alloc(), 2_000_000, 4_096, Vec::new(rt.alloc()))?;
+    assert!(rt; write_labelled(&labelled, &mut sink).is_ok());
+    assert!(rt; sink.bytes() == text.as_slice());
+    Ok(())
+}
+
+#[test]
+fn reads_one_large_group(rt: HostRuntime) -> Result<(), Fail> {
+    let mut source = source_of(&rt, "masked-circuit 2\ninput x 200000\nend\n")?;
+    assert_eq!(rt; read_circuit(rt.alloc(), &mut source)?.inputs(), 200_000);
     Ok(())
 }

@@ -10,7 +10,7 @@ pub pass_on-requires-clause-earlier : goal.pass_on-requires-clause-earlier
 pass_on-requires-clause-earlier g c =
     let here : c.loop-left.left - 1 < length c.circuit-circuit.result.now.gates = rw (← c.gates-gates.ensures.same) (omega arith) in
     rw (c.inputs.ensures, c.gates-gates.ensures.same)
-    (gate_of-operands c.circuit-circuit.result.now (c.loop-left.left - 1) c.gates-gates.ensures.circuit.gates here)
+    (gate_of-operands c.circuit-circuit.result.now (c.loop-left.left - 1) c.gates-gates.ensures.circuit.formed.gates here)
 
 pub pass_on-requires-clause-fits : goal.pass_on-requires-clause-fits
 pass_on-requires-clause-fits g c =
@@ -19,7 +19,7 @@ pass_on-requires-clause-fits g c =
     let e : c.loop-left.left ≡ suc (c.loop-left.left - 1) = omega arith in
     rw (c.inputs.ensures, c.gates-gates.ensures.same, c.deref_mut.ensures.value)
     (demanded_fits c.circuit-circuit.result.now g.row.N (places_of c.circuit-circuit.result.now g.row.N c.args.placed.now) (c.loop-left.left - 1) c.loop-left.sets.items
-    c.gates-gates.ensures.circuit.gates accepted (omega (arith, length-map c.args.placed.now (place_of c.circuit-circuit.result.now g.row.N))) here
+    c.gates-gates.ensures.circuit.formed.gates accepted (omega (arith, length-map c.args.placed.now (place_of c.circuit-circuit.result.now g.row.N))) here
     (subst (λ (k : ℕ). AreDemanded c.circuit-circuit.result.now g.row.N (places_of c.circuit-circuit.result.now g.row.N c.args.placed.now) k c.loop-left.sets.items) e c.loop-left.invariant.so_far))
 
 pub loop-left-preserved : goal.loop-left-preserved
@@ -35,5 +35,6 @@ loop-left-preserved g c =
           (demanded_next c.circuit-circuit.result.now g.row.N (places_of c.circuit-circuit.result.now g.row.N c.args.placed.now) (c.loop-left.left - 1) c.loop-left.sets.items _ here
           (subst (λ (k : ℕ). AreDemanded c.circuit-circuit.result.now g.row.N (places_of c.circuit-circuit.result.now g.row.N c.args.placed.now) k c.loop-left.sets.items) e c.loop-left.invariant.so_far)
           (c.pass_on.auto.sets ∙ ap length c.deref_mut.ensures.value)
-          (rw (c.inputs.ensures, c.gates-gates.ensures.same, c.deref_mut.ensures.value) at c.pass_on.ensures));
+          (rw (c.inputs.ensures, c.gates-gates.ensures.same, c.deref_mut.ensures.value) at c.pass_on.ensures.shares)
+          (rw c.deref_mut.ensures.value at c.pass_on.ensures.within));
     }

@@ -1,6 +1,7 @@
 use Rattle.std.proofs.Common.{ℕ, Bool, arith}
 use Rattle.mask_circuit.specs.Ring.{bits}
-use Rattle.mask_circuit.specs.Wires.{Share, gate_draws, gate_wire}
+use Rattle.mask_circuit.specs.declared.gates.Wire.TheVariants.{Share}
+use Rattle.mask_circuit.specs.Wires.{gate_draws, gate_wire}
 use Rattle.mask_probe.specs.Sides.{byte_shares, bits_from}
 use Rattle.mask_probe.proofs.Packing.{number_more, number_bit}
 use Rattle.mask_probe.proofs.gadgets.gate_shares.Goals as goal

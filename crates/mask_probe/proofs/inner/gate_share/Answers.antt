@@ -1,5 +1,5 @@
 use Rattle.std.proofs.Common.{◌<◌, length, ap, arith}
-use Rattle.mask_circuit.specs.Wires.{Share}
+use Rattle.mask_circuit.specs.declared.gates.Wire.TheVariants.{Share}
 use Rattle.mask_circuit.specs.declared.gates.Gate.TheVariants.{And, Ref}
 use Rattle.mask_circuit.proofs.Numbering.{gate_names-by_share}
 use Rattle.mask_circuit.proofs.Places.{length-each}

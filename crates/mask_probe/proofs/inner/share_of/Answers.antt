@@ -1,5 +1,6 @@
 use Rattle.std.proofs.Common.{◌≡◌, length, ap, arith}
-use Rattle.mask_circuit.specs.Wires.{Share, share_names}
+use Rattle.mask_circuit.specs.declared.gates.Wire.TheVariants.{Share}
+use Rattle.mask_circuit.specs.Wires.{share_names}
 use Rattle.mask_circuit.specs.Expansion.{names_by}
 use Rattle.mask_circuit.proofs.Places.{length-each}
 use Rattle.mask_probe.proofs.OwnProbes.{share_at}

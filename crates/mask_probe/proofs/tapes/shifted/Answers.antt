@@ -1,8 +1,10 @@
 use Rattle.std.proofs.Common.{◌+◌, ◌≤◌, ℕ, suc, Bool, List, [], ◌∷◌, length, drop, get_or, sym, ap, subst, ◌∙◌, arith, add-one, length-append}
+use Rattle.std.proofs.lemmas.List.{get_or_read}
+use Rattle.mask_bits.specs.Reading.{lowest}
 use Rattle.mask_circuit.specs.declared.gates.Gate.{Gate}
 use Rattle.mask_circuit.specs.declared.gates.Gate.TheVariants.{Zero}
 use Rattle.mask_circuit.specs.Wires.{each, gate_draws}
-use Rattle.mask_circuit.specs.Expansion.{Place, start}
+use Rattle.mask_circuit.specs.Expansion.{CircuitWire, start}
 use Rattle.mask_circuit.specs.Need.{inner_probes, need_from}
 use Rattle.mask_circuit.specs.Ring.{bits}
 use Rattle.mask_circuit.specs.Shift.{shift_from}
@@ -47,12 +49,13 @@ mask_of-mask-requires-clause-second g c =
 
 pub mask_of-mask-requires-clause-fits : goal.mask_of-mask-requires-clause-fits
 mask_of-mask-requires-clause-fits g c =
-    let P : List Place = places_of c.args.circuit.now g.row.N c.args.placed.now in
+    let P : List CircuitWire = places_of c.args.circuit.now g.row.N c.args.placed.now in
     let h : Gate = get_or c.gates-gate-items.result.now c.loop-gate.gate-index Zero in
     let at = at_gate c.args.circuit.now g.row.N P c.loop-gate.gate-index c.loop-gate.value
     c.gates-gate-items.result.now c.gates-gate-items.ensures.circuit c.requires.fits c.gates-gate-items.ensures.same c.loop-gate.invariant.value (omega arith) in
+    let own = get_or_read c.args.sets.now c.loop-gate.value c.index-sets-value.result (omega (arith, c.requires.values, at.value)) c.index-sets-value.is 0 in
     FitsAt-same g.row.N h (inner_probes c.loop-gate.value P) (need_from P (drop (suc c.loop-gate.gate-index) c.args.circuit.now.gates) (suc c.loop-gate.value) c.loop-gate.value)
-    (bit_shares (get_or c.args.sets.now c.loop-gate.value 0)) (λ i lt. c.requires.sets c.loop-gate.value i at.value lt ∙ at.need i) at.fits
+    (bit_shares c.index-sets-value.result) (λ i lt. ap (λ s. bit_shares s i) own ∙ c.requires.sets c.loop-gate.value i at.value lt ∙ at.need i) at.fits
 
 pub shift_gate-requires-clause-first : goal.shift_gate-requires-clause-first
 shift_gate-requires-clause-first g c =
@@ -75,7 +78,7 @@ shift_gate-requires-clause-tape g c =
 pub loop-gate-preserved : goal.loop-gate-preserved
 loop-gate-preserved g c =
     let N : ℕ = g.row.N in
-    let P : List Place = places_of c.args.circuit.now N c.args.placed.now in
+    let P : List CircuitWire = places_of c.args.circuit.now N c.args.placed.now in
     let k : ℕ = c.loop-gate.gate-index in
     let v : ℕ = c.loop-gate.value in
     let h : Gate = get_or c.gates-gate-items.result.now k Zero in
@@ -85,7 +88,8 @@ loop-gate-preserved g c =
     c.gates-gate-items.ensures.same c.loop-gate.invariant.value (omega arith) in
     let fits : length c.loop-gate.shifting.tape + gate_draws N h ≤ length c.args.tape.now = omega (arith, at.draws, c.loop-gate.invariant.used) in
     let done = c.in_ok-shift_gate.ensures in
-    let long = ap length done.masked ∙ length-masked c.args.tape.now c.loop-gate.shifting.tape (each (bit_shares c.mask_of-mask.result) (gate_draws N h)) (length c.loop-gate.shifting.tape) (gate_draws N h) fits in
+    let long = ap length done.masked ∙ length-masked c.args.tape.now c.loop-gate.shifting.tape (lowest (gate_draws N h) c.mask_of-mask.result) (length c.loop-gate.shifting.tape) (gate_draws N h) fits in
+    let own = get_or_read c.args.sets.now c.loop-gate.value c.index-sets-value.result (omega (arith, c.requires.values, at.value)) c.index-sets-value.is 0 in
     record {
       value = omega (arith, c.loop-gate.invariant.value);
       first = ap length done.first ∙ omega (arith, length-append c.loop-gate.shifting.first.items (done.one ∷ []), c.loop-gate.invariant.first);
@@ -93,8 +97,8 @@ loop-gate-preserved g c =
       used = rw (add-one k) (omega (arith, at.draws, c.loop-gate.invariant.used, long));
       walked = rw (done.first, done.second, add-one k, add-one v)
           (walked_more P N h rest v c.loop-gate.shifting.first.items c.loop-gate.shifting.second.items c.args.tape.now c.loop-gate.shifting.tape whole
-          c.shift_gate.new.shifting.tape done.one done.two c.mask_of-mask.result (bit_shares (get_or c.args.sets.now v 0))
-          c.loop-gate.invariant.first c.loop-gate.invariant.second at.below fits (λ i lt. c.requires.sets v i at.value lt ∙ at.need i) c.mask_of-mask.ensures
+          c.shift_gate.new.shifting.tape done.one done.two c.mask_of-mask.result (bit_shares c.index-sets-value.result)
+          c.loop-gate.invariant.first c.loop-gate.invariant.second at.below fits (λ i lt. ap (λ s. bit_shares s i) own ∙ c.requires.sets v i at.value lt ∙ at.need i) c.mask_of-mask.ensures
           done.masked done.first_output done.second_output
           (subst (λ (l : List Gate). Walked P N l v c.loop-gate.shifting.first.items c.loop-gate.shifting.second.items c.args.tape.now c.loop-gate.shifting.tape whole)
           at.left c.loop-gate.invariant.walked));

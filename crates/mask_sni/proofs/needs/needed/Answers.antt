@@ -1,6 +1,5 @@
 use Rattle.std.proofs.Common.{◌≡◌, arith, sym, ◌∙◌}
 use Rattle.mask_circuit.specs.Need.{ShareSet}
-use Rattle.mask_sni.specs.Asked.{wires_of}
 use Rattle.mask_sni.specs.Kinds.{needed}
 use Rattle.mask_sni.proofs.Members.{member_in, member_out, needed_few}
 use Rattle.mask_sni.proofs.needs.needed.Goals.{then-is_needed, else-is_needed}
@@ -8,7 +7,7 @@ use Rattle.mask_sni.proofs.needs.needed.Goals as goal
 
 pub loop-i-preserved : goal.loop-i-preserved
 loop-i-preserved c =
-    let set : ShareSet = needed c.args.operand (wires_of c.args.wires.now) in
+    let set : ShareSet = needed c.args.operand c.args.wires.now in
     elim c.if-is_needed.branch [
       | then-is_needed w ↦ rw w.shares-is (record {
         items = w.push.ensures.items ∙ rw c.loop-i.invariant.items (sym (member_in set c.loop-i.i (sym c.is_needed.ensures ∙ w.if-is_needed.true)));

@@ -4,10 +4,8 @@ use Rattle.std.proofs.lemmas.Iterator.Search.{any_from_yields_List}
 use Rattle.mask_circuit.specs.Probing.{same_wire}
 use Rattle.mask_circuit.specs.Shift.{wire_between}
 use Rattle.mask_sni.specs.Kinds.{pair_wire}
-use Rattle.mask_sni.proofs.Probed.{any_named}
 use Rattle.mask_sni.proofs.partners.is_probed_between.Goals as goal
 
 pub returns : goal.returns
 returns c =
     any_from_yields_List _ _ _ _ c.any.ensures.ran (YieldsList-from_slice c.args.wires.now cc) (λ x b q k. search (rules, tests))
-    ∙ any_named (same_wire (wire_between (pair_wire c.args.kind) c.args.i c.args.k)) c.args.wires.now

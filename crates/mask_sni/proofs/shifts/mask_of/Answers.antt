@@ -1,7 +1,7 @@
 use Rattle.std.proofs.Common.{Bool, arith}
 use Rattle.mask_circuit.specs.Wires.{Pair}
-use Rattle.mask_laws.proofs.PairNumbers.{small}
-use Rattle.mask_sni.specs.Asked.{in_places, wires_of}
+use Rattle.mask_circuit.proofs.PairNumbers.{small}
+use Rattle.mask_sni.specs.Asked.{in_places}
 use Rattle.mask_sni.specs.Kinds.{mask_of}
 use Rattle.mask_sni.proofs.Masks.{mask_more, mask_all, small_more, small_power}
 use Rattle.mask_sni.proofs.shifts.mask_of.Goals as goal
@@ -15,14 +15,14 @@ overflow_add-mask c =
 
 pub loop-p-preserved : goal.loop-p-preserved
 loop-p-preserved c =
-    let f : Pair → Bool = λ p. mask_of c.args.operands c.args.n (wires_of c.args.wires.now) (in_places c.args.outputs.now.items) p.0 p.1 in
+    let f : Pair → Bool = λ p. mask_of c.args.operands c.args.n c.args.wires.now (in_places c.args.outputs.now.items) p.0 p.1 in
     record {
-      bits = mask_more f c.args.n _ _ c.loop-p.p c.loop-p.mask c.pair_bit-mask.result _ c.pair_at-i.ensures.pair c.pair_at-i.ensures.number c.loop-p.invariant.bits
+      bits = mask_more f c.args.n _ _ c.loop-p.p c.loop-p.mask c.pair_bit-mask.result _ c.local_pair-i.ensures.pair c.local_pair-i.ensures.number c.loop-p.invariant.bits
           c.pair_bit-mask.ensures.bit c.is_flipped.ensures;
       small = small_more c.loop-p.p c.loop-p.mask c.pair_bit-mask.result c.loop-p.invariant.small c.pair_bit-mask.ensures.small;
     }
 
 pub returns : goal.returns
 returns c =
-    let f : Pair → Bool = λ p. mask_of c.args.operands c.args.n (wires_of c.args.wires.now) (in_places c.args.outputs.now.items) p.0 p.1 in
+    let f : Pair → Bool = λ p. mask_of c.args.operands c.args.n c.args.wires.now (in_places c.args.outputs.now.items) p.0 p.1 in
     mask_all f c.args.n c.loop-p.p c.loop-p.mask (omega arith) c.loop-p.invariant.bits

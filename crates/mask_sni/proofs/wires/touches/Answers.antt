@@ -2,10 +2,8 @@ use Rattle.std.proofs.Common.{rules, tests, ◌∙◌}
 use Rattle.std.proofs.lemmas.Iterator.{YieldsList-from_slice}
 use Rattle.std.proofs.lemmas.Iterator.Search.{any_from_yields_List}
 use Rattle.mask_sni.specs.Kinds.{touches}
-use Rattle.mask_sni.proofs.Probed.{any_named}
 use Rattle.mask_sni.proofs.wires.touches.Goals as goal
 
 pub returns : goal.returns
 returns c =
     any_from_yields_List _ _ _ _ c.any.ensures.ran (YieldsList-from_slice c.args.wires.now cc) (λ x b q k. search (rules, tests))
-    ∙ any_named (touches c.args.kind c.args.i) c.args.wires.now

@@ -1,5 +1,5 @@
 use Rattle.std.proofs.Common.{ap, sym, ◌∙◌, length}
-use Rattle.mask_circuit.specs.Wires.{Share}
+use Rattle.mask_circuit.specs.declared.gates.Wire.TheVariants.{Share}
 use Rattle.mask_circuit.specs.Expansion.{names_by}
 use Rattle.mask_circuit.proofs.Places.{length-each}
 use Rattle.mask_circuit.proofs.circuits.Circuit.wires_of.Goals as goal

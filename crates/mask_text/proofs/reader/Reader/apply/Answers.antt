@@ -38,19 +38,19 @@ returns-in_ok-set_inputs-in-Inputs c = took_inputs c.args.self.now c.args.said c
 pub returns-in_ok-add_input-in-Input : goal.returns-in_ok-add_input-in-Input
 returns-in_ok-add_input-in-Input c =
     took_input c.args.self.now c.args.said c.requires.reading c.requires.follows c.requires.right _ _ c.add_input.new.self c.in-Input.is
-    c.in_ok-add_input-in-Input.ensures.added c.in_ok-add_input-in-Input.ensures.place c.in_ok-add_input-in-Input.ensures.promised
+    c.in_ok-add_input-in-Input.ensures.added c.in_ok-add_input-in-Input.ensures.section c.in_ok-add_input-in-Input.ensures.promised
 
 pub returns-in_ok-add_gate-in-Makes : goal.returns-in_ok-add_gate-in-Makes
 returns-in_ok-add_gate-in-Makes c =
     took_gate c.args.self.now c.args.said c.requires.reading c.requires.follows c.requires.right _ c.add_gate.new.self c.in-Makes.is
-    c.in_ok-add_gate-in-Makes.ensures.added c.in_ok-add_gate-in-Makes.ensures.place c.in_ok-add_gate-in-Makes.ensures.promised
+    c.in_ok-add_gate-in-Makes.ensures.added c.in_ok-add_gate-in-Makes.ensures.section c.in_ok-add_gate-in-Makes.ensures.promised
 
 pub returns-in_ok-add_output-in-Output : goal.returns-in_ok-add_output-in-Output
 returns-in_ok-add_output-in-Output c =
     took_output c.args.self.now c.args.said c.requires.reading c.requires.follows c.requires.right _ _ c.add_output.new.self c.in-Output.is
-    c.in_ok-add_output-in-Output.ensures.added c.in_ok-add_output-in-Output.ensures.place c.in_ok-add_output-in-Output.ensures.promised
+    c.in_ok-add_output-in-Output.ensures.added c.in_ok-add_output-in-Output.ensures.section c.in_ok-add_output-in-Output.ensures.promised
 
 pub returns-in_ok-add_out-in-Out : goal.returns-in_ok-add_out-in-Out
 returns-in_ok-add_out-in-Out c =
     took_out c.args.self.now c.args.said c.requires.reading c.requires.follows c.requires.right _ c.add_out.new.self c.in-Out.is
-    c.in_ok-add_out-in-Out.ensures.added c.in_ok-add_out-in-Out.ensures.place c.in_ok-add_out-in-Out.ensures.promised
+    c.in_ok-add_out-in-Out.ensures.added c.in_ok-add_out-in-Out.ensures.section c.in_ok-add_out-in-Out.ensures.promised
