@@ -195,13 +195,24 @@ fn each_write_is_flushed(rt: HostRuntime) {
         let mut sink = StdSink::new(Noting { log: &mut log });
         assert_eq!(rt; write_all(&mut sink, &[7; 10_000]), Ok(()));
     }
-    assert_eq!(rt; log, Log { calls: 4, flushes: 4, bytes: 10_000, ..NO_CALL });
+    assert_eq!(rt;
+        log,
+        Log {
+            calls: 4,
+            flushes: 4,
+            bytes: 10_000,
+            ..NO_CALL
+        }
+    );
 }
 
 // A failed flush is a failure, and nothing is written after it.
 #[test]
 fn a_failed_flush_is_a_failure(rt: HostRuntime) {
-    let mut log = Log { failing_flush: 2, ..NO_CALL };
+    let mut log = Log {
+        failing_flush: 2,
+        ..NO_CALL
+    };
     {
         let mut sink = StdSink::new(Noting { log: &mut log });
         assert_eq!(rt; write_all(&mut sink, &[7; 10_000]), Err(Failed));
