@@ -44,7 +44,8 @@ pub trait Source {
         ensures ok { IfOk result (Gives (left self.old) (left self.new) buf.old buf.new) }
         ensures err { OnErr result
             (Fails (left self.old) (left self.new) (faults self.old) (faults self.new)) }
-        ensures never_falls { NeverFalls (faults self.old) (faults self.new) };
+        ensures never_falls { NeverFalls (faults self.old) (faults self.new) }
+        ensures steady { OnOk result (faults self.new ≡ faults self.old) };
 }
 
 /// A place to write bytes to.
@@ -60,7 +61,8 @@ pub trait Sink {
         ensures ok { IfOk result (Accepts (written self.old) (written self.new) piece.now) }
         ensures err { OnErr result
             (Fails (written self.old) (written self.new) (faults self.old) (faults self.new)) }
-        ensures never_falls { NeverFalls (faults self.old) (faults self.new) };
+        ensures never_falls { NeverFalls (faults self.old) (faults self.new) }
+        ensures steady { OnOk result (faults self.new ≡ faults self.old) };
 }
 
 /// Random bytes, drawn whole or not at all.
@@ -81,6 +83,7 @@ pub trait Entropy {
         ensures err { OnErr result
             (Fails (left self.old) (left self.new) (faults self.old) (faults self.new)) }
         ensures never_falls { NeverFalls (faults self.old) (faults self.new) }
+        ensures steady { OnOk result (faults self.new ≡ faults self.old) }
         ensures wants { MatchResult result
             (λ _. wanted self.new ≡ wanted self.old)
             (λ _. wanted self.new ≡ length buf.old) };
@@ -95,6 +98,7 @@ pub fn write_all<O: Sink>(sink: &mut O, piece: &[u8]) -> Result<(), Failed>
         (AppendsProperPrefix (O.written sink.old) (O.written sink.new) piece.now) }
     ensures rose { OnErr result (Rose (O.faults sink.old) (O.faults sink.new)) }
     ensures never_falls { NeverFalls (O.faults sink.old) (O.faults sink.new) }
+    ensures steady { OnOk result (O.faults sink.new ≡ O.faults sink.old) }
 
     // Nothing to write: the sink isn't called.
     ensures nothing { piece.now ≡ [] → IsOk result × (sink.new ≡ sink.old) }

@@ -40,6 +40,7 @@ impl<R: Read> Source for OpenSource<R> {
         ensures err { OnErr result
             (Fails None None (source_faults self.old) (source_faults self.new)) }
         ensures never_falls { NeverFalls (source_faults self.old) (source_faults self.new) }
+        ensures steady { OnOk result (source_faults self.new ≡ source_faults self.old) }
 
         // Each kind reads as it does by itself, and stays what it is.
         ensures file { (s : Counted R) → self.old ≡ sources.File s → (t : Counted R)
@@ -69,6 +70,7 @@ impl<R: Read> Entropy for OpenEntropy<R> {
         ensures err { OnErr result
             (Fails None None (entropy_faults self.old) (entropy_faults self.new)) }
         ensures never_falls { NeverFalls (entropy_faults self.old) (entropy_faults self.new) }
+        ensures steady { OnOk result (entropy_faults self.new ≡ entropy_faults self.old) }
         ensures wants { MatchResult result
             (λ _. entropy_wanted self.new ≡ entropy_wanted self.old)
             (λ _. entropy_wanted self.new ≡ length buf.old) }
