@@ -2,20 +2,25 @@
 
 ghost use Rattle.std.specs.Prelude.{◌≤◌, length};
 
-use mask_words::{MAX_WORDS, Words};
+use mask_words::Words;
 use std::alloc::{AllocError, Global};
 use std::env::{Env, FillError};
 
-/// The words behind the program's name, at most `MAX_WORDS` of them. One that isn't UTF-8 becomes the empty word.
-pub fn read_words_of(rt: &impl Env, alloc: Global) -> Result<Words, AllocError> {
+// The most words of a command line.
+const MOST: usize = 1_000_000;
+
+/// The words behind the program's name, and whether there are more of them than a command line may have. A word that isn't
+/// UTF-8 becomes the empty word.
+pub fn read_words_of(rt: &impl Env, alloc: Global) -> Result<(Words, bool), AllocError> {
     let mut words = Words::new(alloc);
-    for read in 0..MAX_WORDS {
+    for read in 0..MOST {
         let Some(word) = argument(rt, alloc, read + 1)? else {
-            break;
+            return Ok((words, false));
         };
         words.push(std::str::from_utf8(&word).unwrap_or(""))?;
     }
-    Ok(words)
+    let further = argument(rt, alloc, MOST + 1)?;
+    Ok((words, further.is_some()))
 }
 
 // The bytes of an argument, where there is one at this place. The buffer is doubled until they fit.

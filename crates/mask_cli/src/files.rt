@@ -1,51 +1,28 @@
-//! The key file and the tape that a command line names.
+//! The key file and the tape that a command line names. What the words mean is said in `mask_words`.
 
-use hex::FromHex;
-use mask_words::Words;
+use mask_io::{
+    ClosedEntropy, ClosedSource, FileEntropy, OpenEntropy, OpenSource, SeedEntropy, StdSource,
+};
+use mask_words::{TapeName, Words, keys_path, tape_name};
 use std::fs;
 use std::rt::Files;
 
-/// A tape, as the second word names it.
-#[derive(Drop)]
-pub enum OpenTape<F> {
-    /// `seed:` and 64 hexadecimal digits.
-    Seed([u8; 32]),
-    /// The path of a file that opens.
-    File(F),
-    /// Anything else: there is no tape.
-    Closed,
-}
-
-/// The file that the first word names, where it is a path that opens.
-pub fn open_keys<R: Files>(rt: &R, words: &Words) -> Option<R::File> {
-    if words.len() < 1 {
-        return None;
-    }
-    open(rt, words.word(0))
-}
-
-/// The tape that the second word names. What begins with `seed:` is no path.
-pub fn open_tape<R: Files>(rt: &R, words: &Words) -> OpenTape<R::File> {
-    if words.len() < 2 {
-        return OpenTape::Closed;
-    }
-    let name = words.word(1);
-    if let Some(digits) = name.strip_prefix("seed:") {
-        return match <[u8; 32] as FromHex>::from_hex(digits) {
-            Ok(seed) => OpenTape::Seed(seed),
-            Err(_) => OpenTape::Closed,
-        };
-    }
-    match open(rt, name) {
-        Some(file) => OpenTape::File(file),
-        None => OpenTape::Closed,
+/// The key file, or a closed source where none is named or it doesn't open.
+pub fn open_keys<R: Files>(rt: &R, words: &Words) -> OpenSource<R::File> {
+    match keys_path(words).and_then(|path| fs::open(rt, path).ok()) {
+        Some(file) => OpenSource::File(StdSource::new(file)),
+        None => OpenSource::Closed(ClosedSource::new()),
     }
 }
 
-// The file at a path; `-` names none.
-fn open<R: Files>(rt: &R, path: &str) -> Option<R::File> {
-    if path == "-" {
-        return None;
+/// The tape, or a closed one where none is named or the file doesn't open.
+pub fn open_tape<R: Files>(rt: &R, words: &Words) -> OpenEntropy<R::File> {
+    match tape_name(words) {
+        TapeName::Seed(seed) => OpenEntropy::Seed(SeedEntropy::new(seed)),
+        TapeName::Path(path) => match fs::open(rt, path) {
+            Ok(file) => OpenEntropy::File(FileEntropy::new(file)),
+            Err(_) => OpenEntropy::Closed(ClosedEntropy::new()),
+        },
+        TapeName::NoTape => OpenEntropy::Closed(ClosedEntropy::new()),
     }
-    fs::open(rt, path).ok()
 }

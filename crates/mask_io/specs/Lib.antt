@@ -2,3 +2,4 @@ pub mod Outside
 pub mod Memory
 pub mod Seeded
 pub mod Adapters
+pub mod Opened

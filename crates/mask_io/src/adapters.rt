@@ -51,6 +51,7 @@ impl<R: Read> Source for StdSource<R> {
         ensures ok { IfOk result (Gives None None buf.old buf.new) }
         ensures err { OnErr result (Fails None None self.old.faults self.new.faults) }
         ensures never_falls { NeverFalls self.old.faults self.new.faults }
+        ensures steady { OnOk result (self.new.faults ≡ self.old.faults) }
         ensures count { self.new.faults ≡ faults_after (is_err result) self.old.faults }
 
         // Where the reader's bytes are known, the source passes them on.
@@ -108,6 +109,7 @@ impl<W: Write> Sink for StdSink<W> {
         ensures ok { IfOk result (Accepts None None piece.now) }
         ensures err { OnErr result (Fails None None self.old.faults self.new.faults) }
         ensures never_falls { NeverFalls self.old.faults self.new.faults }
+        ensures steady { OnOk result (self.new.faults ≡ self.old.faults) }
         ensures count { self.new.faults ≡ faults_after (is_err result) self.old.faults }
 
         // Where the writer's bytes are known, the sink passes them on.
@@ -177,6 +179,7 @@ impl<R: Read> Entropy for FileEntropy<R> {
         ensures ok { OnOk result (Takes None None buf.new) }
         ensures err { OnErr result (Fails None None self.old.faults self.new.faults) }
         ensures never_falls { NeverFalls self.old.faults self.new.faults }
+        ensures steady { OnOk result (self.new.faults ≡ self.old.faults) }
         ensures wants { MatchResult result
             (λ _. self.new.wanted ≡ self.old.wanted)
             (λ _. self.new.wanted ≡ length buf.old) }

@@ -16,12 +16,14 @@ ghost use Rattle.mask_io.specs.Outside.{Rose, NeverFalls, Gives, Accepts, Takes,
 mod adapters;
 mod calls;
 mod memory;
+mod opened;
 mod seed;
 #[cfg(test)]
 mod tests;
 
 pub use adapters::{FileEntropy, StdSink, StdSource};
 pub use memory::{ClosedEntropy, ClosedSource, MemEntropy, MemSink, MemSource, SureSource};
+pub use opened::{OpenEntropy, OpenSource};
 pub use seed::SeedEntropy;
 
 /// The one fault of the outside. Which object failed is told by its count.
@@ -42,7 +44,8 @@ pub trait Source {
         ensures ok { IfOk result (Gives (left self.old) (left self.new) buf.old buf.new) }
         ensures err { OnErr result
             (Fails (left self.old) (left self.new) (faults self.old) (faults self.new)) }
-        ensures never_falls { NeverFalls (faults self.old) (faults self.new) };
+        ensures never_falls { NeverFalls (faults self.old) (faults self.new) }
+        ensures steady { OnOk result (faults self.new ≡ faults self.old) };
 }
 
 /// A place to write bytes to.
@@ -58,7 +61,8 @@ pub trait Sink {
         ensures ok { IfOk result (Accepts (written self.old) (written self.new) piece.now) }
         ensures err { OnErr result
             (Fails (written self.old) (written self.new) (faults self.old) (faults self.new)) }
-        ensures never_falls { NeverFalls (faults self.old) (faults self.new) };
+        ensures never_falls { NeverFalls (faults self.old) (faults self.new) }
+        ensures steady { OnOk result (faults self.new ≡ faults self.old) };
 }
 
 /// Random bytes, drawn whole or not at all.
@@ -79,6 +83,7 @@ pub trait Entropy {
         ensures err { OnErr result
             (Fails (left self.old) (left self.new) (faults self.old) (faults self.new)) }
         ensures never_falls { NeverFalls (faults self.old) (faults self.new) }
+        ensures steady { OnOk result (faults self.new ≡ faults self.old) }
         ensures wants { MatchResult result
             (λ _. wanted self.new ≡ wanted self.old)
             (λ _. wanted self.new ≡ length buf.old) };
@@ -93,6 +98,7 @@ pub fn write_all<O: Sink>(sink: &mut O, piece: &[u8]) -> Result<(), Failed>
         (AppendsProperPrefix (O.written sink.old) (O.written sink.new) piece.now) }
     ensures rose { OnErr result (Rose (O.faults sink.old) (O.faults sink.new)) }
     ensures never_falls { NeverFalls (O.faults sink.old) (O.faults sink.new) }
+    ensures steady { OnOk result (O.faults sink.new ≡ O.faults sink.old) }
 
     // Nothing to write: the sink isn't called.
     ensures nothing { piece.now ≡ [] → IsOk result × (sink.new ≡ sink.old) }

@@ -66,6 +66,7 @@ impl Source for MemSource {
         ensures err { OnErr result (Fails (Some self.old.left) (Some self.new.left)
             self.old.script.faults self.new.script.faults) }
         ensures never_falls { NeverFalls self.old.script.faults self.new.script.faults }
+        ensures steady { OnOk result (self.new.script.faults ≡ self.old.script.faults) }
         ensures fails { IsErr result ↔ Contains self.old.script.fails self.old.script.made }
         ensures count { IfOk result
             (λ n. n ≡ min self.old.piece (min (length buf.old) (length self.old.left))) }
@@ -129,6 +130,7 @@ impl Source for SureSource {
         ensures ok { IfOk result (Gives (Some self.old) (Some self.new) buf.old buf.new) }
         ensures err { OnErr result (Fails (Some self.old) (Some self.new) 0 0) }
         ensures never_falls { NeverFalls 0 0 }
+        ensures steady { OnOk result (◌≡◌ {A = ℕ} 0 0) }
         ensures never_fails { IsOk result }
         ensures count { IfOk result (λ n. n ≡ min (length buf.old) (length self.old)) }
     {
@@ -169,6 +171,7 @@ impl Source for ClosedSource {
         ensures ok { IfOk result (Gives None None buf.old buf.new) }
         ensures err { OnErr result (Fails None None self.old self.new) }
         ensures never_falls { NeverFalls self.old self.new }
+        ensures steady { OnOk result (self.new ≡ self.old) }
         ensures closed { IsErr result }
         ensures count { self.new ≡ counted self.old }
     {
@@ -251,6 +254,7 @@ impl Sink for MemSink {
         ensures err { OnErr result (Fails (Some self.old.written) (Some self.new.written)
             self.old.script.faults self.new.script.faults) }
         ensures never_falls { NeverFalls self.old.script.faults self.new.script.faults }
+        ensures steady { OnOk result (self.new.script.faults ≡ self.old.script.faults) }
         ensures fails { IsErr result
             ↔ (Contains self.old.script.fails self.old.script.made
             ⊎ ((0 < length piece.now) × (self.old.room ≡ 0))) }
@@ -332,6 +336,7 @@ impl Entropy for MemEntropy {
         ensures err { OnErr result (Fails (Some self.old.left) (Some self.new.left)
             self.old.script.faults self.new.script.faults) }
         ensures never_falls { NeverFalls self.old.script.faults self.new.script.faults }
+        ensures steady { OnOk result (self.new.script.faults ≡ self.old.script.faults) }
         ensures wants { MatchResult result
             (λ _. self.new.wanted ≡ self.old.wanted)
             (λ _. self.new.wanted ≡ length buf.old) }
@@ -400,6 +405,7 @@ impl Entropy for ClosedEntropy {
         ensures ok { OnOk result (Takes None None buf.new) }
         ensures err { OnErr result (Fails None None self.old.faults self.new.faults) }
         ensures never_falls { NeverFalls self.old.faults self.new.faults }
+        ensures steady { OnOk result (self.new.faults ≡ self.old.faults) }
         ensures wants { MatchResult result
             (λ _. self.new.wanted ≡ self.old.wanted)
             (λ _. self.new.wanted ≡ length buf.old) }

@@ -80,6 +80,7 @@ impl Entropy for SeedEntropy {
         ensures ok { OnOk result (Takes None None buf.new) }
         ensures err { OnErr result (Fails None None 0 0) }
         ensures never_falls { NeverFalls 0 0 }
+        ensures steady { OnOk result (◌≡◌ {A = ℕ} 0 0) }
         ensures never_fails { IsOk result }
 
         // The buffer holds the next bytes of the stream.

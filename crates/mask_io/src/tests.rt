@@ -1,6 +1,8 @@
+ghost use Rattle.std.specs.Prelude.{◌≤◌};
+
 use crate::{
-    Entropy, Failed, FileEntropy, MemEntropy, MemSink, MemSource, SeedEntropy, Sink, Source,
-    StdSink, StdSource, write_all,
+    ClosedEntropy, Entropy, Failed, FileEntropy, MemEntropy, MemSink, MemSource, OpenEntropy,
+    OpenSource, SeedEntropy, Sink, Source, StdSink, StdSource, write_all,
 };
 use std::io::{self, ErrorKind, Read, Write};
 use std::test::Fail;
@@ -124,4 +126,137 @@ fn adapters_pass_on_bytes_and_failures(rt: HostRuntime) {
     assert_eq!(rt; entropy.fill(&mut buf), Err(Failed));
     assert_eq!(rt; entropy.fill(&mut buf), Ok(()));
     assert_eq!(rt; buf, [3, 4]);
+}
+
+// What a reader or writer was asked for.
+#[derive(Clone, Copy, Debug, PartialEq, Eq)]
+struct Log {
+    calls: u32,
+    flushes: u32,
+    // Bytes were written that weren't flushed yet.
+    is_dirty: bool,
+    // The number of the flush that fails, from 1.
+    failing_flush: u32,
+    bytes: usize,
+}
+
+const NO_CALL: Log = Log {
+    calls: 0,
+    flushes: 0,
+    is_dirty: false,
+    failing_flush: 0,
+    bytes: 0,
+};
+
+// Reads or takes at most 3,000 bytes in a call, and notes each call.
+#[derive(Drop)]
+struct Noting<'a> {
+    log: &'a mut Log,
+}
+
+impl Noting<'_> {
+    fn take(&mut self, room: usize) -> usize
+        ensures { result ≤ room }
+    {
+        let count = room.min(3_000);
+        self.log.calls = self.log.calls.wrapping_add(1);
+        self.log.bytes = self.log.bytes.wrapping_add(count);
+        count
+    }
+}
+
+impl Read for Noting<'_> {
+    fn read(&mut self, buf: &mut [u8]) -> io::Result<usize> {
+        Ok(self.take(buf.len()))
+    }
+}
+
+impl Write for Noting<'_> {
+    fn write(&mut self, buf: &[u8]) -> io::Result<usize> {
+        self.log.is_dirty = true;
+        Ok(self.take(buf.len()))
+    }
+
+    fn flush(&mut self) -> io::Result<()> {
+        self.log.flushes = self.log.flushes.wrapping_add(1);
+        if self.log.flushes == self.log.failing_flush {
+            return Err(io::Error::from(ErrorKind::Other));
+        }
+        self.log.is_dirty = false;
+        Ok(())
+    }
+}
+
+// A piece above the chunk is written in four calls, each flushed behind it, and nothing is written after it.
+#[test]
+fn each_write_is_flushed(rt: HostRuntime) {
+    let mut log = NO_CALL;
+    {
+        let mut sink = StdSink::new(Noting { log: &mut log });
+        assert_eq!(rt; write_all(&mut sink, &[7; 10_000]), Ok(()));
+    }
+    assert_eq!(rt;
+        log,
+        Log {
+            calls: 4,
+            flushes: 4,
+            bytes: 10_000,
+            ..NO_CALL
+        }
+    );
+}
+
+// A failed flush is a failure, and nothing is written after it.
+#[test]
+fn a_failed_flush_is_a_failure(rt: HostRuntime) {
+    let mut log = Log {
+        failing_flush: 2,
+        ..NO_CALL
+    };
+    {
+        let mut sink = StdSink::new(Noting { log: &mut log });
+        assert_eq!(rt; write_all(&mut sink, &[7; 10_000]), Err(Failed));
+    }
+    assert_eq!(rt; log.calls, 2);
+    assert_eq!(rt; log.flushes, 2);
+    assert!(rt; log.is_dirty);
+}
+
+// One read of the source is one read of the reader, with no more bytes than that gives.
+#[test]
+fn a_read_is_one_read(rt: HostRuntime) {
+    let mut log = NO_CALL;
+    {
+        let mut source = StdSource::new(Noting { log: &mut log });
+        assert_eq!(rt; source.read(&mut [0; 10_000]), Ok(3_000));
+    }
+    assert_eq!(rt; log.calls, 1);
+    assert_eq!(rt; log.bytes, 3_000);
+}
+
+// A fill above the chunk reads until the buffer is full, and no further; an empty one reads nothing.
+#[test]
+fn a_fill_reads_what_it_needs(rt: HostRuntime) {
+    let mut log = NO_CALL;
+    {
+        let mut entropy = FileEntropy::new(Noting { log: &mut log });
+        assert_eq!(rt; entropy.fill(&mut [0; 10_000]), Ok(()));
+        assert_eq!(rt; entropy.fill(&mut []), Ok(()));
+    }
+    assert_eq!(rt; log.calls, 4);
+    assert_eq!(rt; log.bytes, 10_000);
+}
+
+// What was opened by name does what its kind does by itself.
+#[test]
+fn what_is_opened_acts_as_its_kind(rt: HostRuntime) {
+    let mut buf = [9; 2];
+    let mut source = OpenSource::File(StdSource::new(Flaky { calls: 0, last: 0 }));
+    assert_eq!(rt; source.read(&mut buf), Ok(1));
+    assert_eq!(rt; source.read(&mut buf), Err(Failed));
+    let mut entropy: OpenEntropy<Flaky> = OpenEntropy::Seed(SeedEntropy::new([0; 32]));
+    assert_eq!(rt; entropy.fill(&mut buf), Ok(()));
+    assert_eq!(rt; buf, [0x76, 0xb8]);
+    let mut closed: OpenEntropy<Flaky> = OpenEntropy::Closed(ClosedEntropy::new());
+    assert_eq!(rt; closed.fill(&mut buf), Err(Failed));
 }

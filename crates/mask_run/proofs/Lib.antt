@@ -1,11 +1,6 @@
-pub mod Judging
-pub mod Spelling
-pub mod TextLaws
-pub mod Printing
-pub mod LaneZero
-pub mod Telling
 pub mod Counts
 pub mod Inputs
-pub mod Reports
-pub mod Probed
+pub mod LaneZero
+pub mod Printing
 pub mod Promises
+pub mod Telling

@@ -1,57 +1,127 @@
--- What the command promises of a job, from what it promises of the job's end.
-use Rattle.std.proofs.Common.{◌≡◌, ◌⊎◌, ℕ, List, [], ◌∷◌, inl, inr, sym, subst, ◌∙◌}
+-- What the command promises of a text that the input tells, and when each answer comes: for all jobs at once, from how a
+-- run ends on the bytes that it took.
+use Rattle.std.proofs.Common.{◌≡◌, ◌⊎◌, ℕ, zero, suc, ◌+◌, ◌^◌, ◌<◌, ◌≤◌, List, [], ◌∷◌, ◌++◌, length, None, Some, refl, sym, ap, ◌∙◌, subst, inl, inr, arith}
+use Rattle.std.proofs.lemmas.List.{append-nil, length-append}
+use Rattle.std.specs.declared.option.Option.{Option}
+use Rattle.std.specs.Io.KnownBytes.{Consumes, IsAtEnd}
+use Rattle.mask_circuit.specs.Netlist.{Netlist}
+use Rattle.mask_text.specs.Text.{IsTextOf}
 use Rattle.mask_words.specs.WordTests.{Word}
-use Rattle.mask_words.specs.Jobs.{word_at, IsJob}
-use Rattle.mask_words.proofs.OneJob.{IsJob-one}
 use Rattle.mask_words.specs.declared.table.Job.{Job}
-use Rattle.mask_words.specs.declared.table.Job.TheVariants.{Eval, Check, Upgrade, Probe}
-use Rattle.mask_run.specs.declared.status.Status.{Status}
-use Rattle.mask_run.specs.declared.status.Status.TheVariants.{Done, ReadFault, TapeFault, WriteFault, NoMemory}
-use Rattle.mask_run.specs.Outside.{Outside}
-use Rattle.mask_run.specs.Texts.{OneOf}
-use Rattle.mask_run.specs.Probing.{wires_of}
-use Rattle.mask_run.specs.Promises.{Ends, Answers, CanBeDone}
-use Rattle.mask_run.proofs.Printing.{EvalEnds-answers}
-use Rattle.mask_run.proofs.Judging.{CheckEnds-answers}
-use Rattle.mask_run.proofs.Spelling.{UpgradeEnds-answers}
-use Rattle.mask_run.proofs.Probed.{ProbeEnds-answers}
+use Rattle.mask_words.specs.declared.table.Job.TheVariants as jobs
+use Rattle.mask_status.specs.declared.status.Status.{Status}
+use Rattle.mask_status.specs.declared.status.Status.TheVariants.{Done, ReadFault, TapeFault, WriteFault, NoMemory}
+use Rattle.mask_inspect.specs.Checks.{FirstFailure, AllPass}
+use Rattle.mask_inspect.specs.Ends.{Ends, Long, Fails, Does, Breaks, Writes}
+use Rattle.mask_inspect.specs.Laws.{FirstFailureIsOne, NoneFailsWhereAllPass, TextIsOne}
+use Rattle.mask_run.specs.Outside.{Outside, LeavesNothing}
+use Rattle.mask_run.specs.Evaluating.{Evaluated}
+use Rattle.mask_run.specs.Promises.{checks_of, Did, cost_of, bits_of, EndsOn, Runs, IsDue, CanBeDone, OneOf}
 
--- words are one job, so what holds of the job that was done holds of any that they are
-pub same_job : (words : List Word) (done there job : Job) → IsJob words done → done ≡ there → IsJob words job → there ≡ job
-same_job words done there job is e other = sym e ∙ IsJob-one words done job is other
+-- THE BYTES OF AN INPUT THAT TELLS THEM
 
-pub Ends-same : (words : List Word) (a b : Job) (text : List ℕ) (o : Outside) (status : Status) → a ≡ b → Ends a words text o status → Ends b words text o status
-Ends-same words a b text o status same h = subst (λ (j : Job). Ends j words text o status) same h
+-- bytes that were taken are no more than there were, and all of them where nothing is left
+longer : (text bytes : List ℕ) (now : Option (List ℕ)) → Consumes (Some text) now bytes → length bytes ≤ length text
+longer text bytes None taken = absurd taken
+longer text bytes (Some rest) taken = rw taken (omega (arith, length-append bytes rest))
 
--- each answer comes where it is due, since what holds with another one rules it out
-pub Ends-answers : (job : Job) (words : List Word) (text : List ℕ) (o : Outside) (status : Status) → Ends job words text o status → Answers job words text status
-Ends-answers (Eval order) words text o status h = EvalEnds-answers text (word_at words 5) order o status h
-Ends-answers Check words text o status h = CheckEnds-answers text o.out_before o.out_after status h
-Ends-answers Upgrade words text o status h = UpgradeEnds-answers text o.out_before o.out_after status h
-Ends-answers (Probe order) words text o status h = ProbeEnds-answers text (wires_of words) order o.out_before o.out_after status h
+whole : (text bytes : List ℕ) (now : Option (List ℕ)) → Consumes (Some text) now bytes → IsAtEnd now → (bytes ≡ text) × (now ≡ Some [])
+whole text bytes None taken end = absurd taken
+whole text bytes (Some rest) taken end = (sym (taken ∙ rw end (append-nil bytes)), ap Some end)
 
-module _ (status : Status) (no_read : status ≡ ReadFault → ⊥) (no_tape : status ≡ TapeFault → ⊥) (no_write : status ≡ WriteFault → ⊥) where
-  -- an end that is no fault
-  without_faults : OneOf status (Done ∷ ReadFault ∷ TapeFault ∷ WriteFault ∷ NoMemory ∷ []) → (status ≡ Done) ⊎ (status ≡ NoMemory)
-  without_faults (inl done) = inl done
-  without_faults (inr (inl read)) = absurd (no_read read)
-  without_faults (inr (inr (inl tape))) = absurd (no_tape tape)
-  without_faults (inr (inr (inr (inl write)))) = absurd (no_write write)
-  without_faults (inr (inr (inr (inr (inl memory))))) = inr memory
-  without_faults (inr (inr (inr (inr (inr none))))) = absurd none
+module _ (job : Job) (words : List Word) (o : Outside) (same : Type 0) (status : Status) (run : Runs job words o same status) (text : List ℕ)
+    (told : o.left_before ≡ Some text) where
+  taken : Consumes (Some text) o.left_after run.bytes
+  taken = subst (λ (before : Option (List ℕ)). Consumes before o.left_after run.bytes) told run.taken
 
-  -- likewise without a tape
-  untaped : OneOf status (Done ∷ ReadFault ∷ WriteFault ∷ NoMemory ∷ []) → (status ≡ Done) ⊎ (status ≡ NoMemory)
-  untaped (inl done) = inl done
-  untaped (inr (inl read)) = absurd (no_read read)
-  untaped (inr (inr (inl write))) = absurd (no_write write)
-  untaped (inr (inr (inr (inl memory)))) = inr memory
-  untaped (inr (inr (inr (inr none)))) = absurd none
+  pub EndsOn-told : EndsOn job words o text status
+  EndsOn-told = go run.ends
+    where
+      all : IsAtEnd o.left_after → EndsOn job words o run.bytes status → EndsOn job words o text status
+      all end ends = subst (λ (b : List ℕ). EndsOn job words o b status) (whole text run.bytes o.left_after taken end).0 ends
 
-  -- a job that can be done is done but for faults and want of memory
-  pub Answers-done : (job : Job) (words : List Word) (text : List ℕ) → Answers job words text status → CanBeDone job words text →
-      (status ≡ Done) ⊎ (status ≡ NoMemory)
-  Answers-done (Eval order) words text answers can = without_faults (answers.fit can.0 can.1 can.2)
-  Answers-done Check words text answers can = untaped (answers.accepted can.0 can.1 can.2)
-  Answers-done Upgrade words text answers can = untaped (answers.text_stands can.0 can.1)
-  Answers-done (Probe order) words text answers can = untaped (answers.probed can.0 can.1 can.2 can.3)
+      go : EndsOn job words o run.bytes status → EndsOn job words o text status
+      go (Long e long) = Long e (omega (arith, long, longer text run.bytes o.left_after taken))
+      go (Fails end within h) = all end (Fails end within h)
+      go (Does end within pass did) = all end (Does end within pass did)
+      go (Breaks h) = Breaks h
+
+  pub nothing_left : LeavesNothing status → o.left_after ≡ Some []
+  nothing_left h = go run.ends
+    where
+      go : EndsOn job words o run.bytes status → o.left_after ≡ Some []
+      go (Long e long) = absurd (subst LeavesNothing e h)
+      go (Fails end within f) = (whole text run.bytes o.left_after taken end).1
+      go (Does end within pass did) = (whole text run.bytes o.left_after taken end).1
+      go (Breaks (inl e)) = absurd (subst LeavesNothing e h)
+      go (Breaks (inr e)) = absurd (subst LeavesNothing e h)
+
+  module _ (texts : TextIsOne) (c : Netlist) (is : IsTextOf text c) where
+    -- the circuit that was read
+    read_is : (d : Netlist) → IsAtEnd o.left_after → IsTextOf run.bytes d → d ≡ c
+    read_is d end there =
+        texts text d c (subst (λ (b : List ℕ). IsTextOf b d) (whole text run.bytes o.left_after taken end).0 there) is
+
+    pub same-idle : bits_of job c ≡ 0 → same
+    same-idle none = elim run.asks [
+      | inl here ↦ here
+      | inr asked ↦ (
+          let bits : bits_of job asked.0 ≡ bits_of job c = ap (bits_of job) (read_is asked.0 asked.1.at_end asked.1.is_text) in
+          let some = asked.2 in absurd (omega arith))
+    ]
+
+    pub steps-bound : o.steps_after ≤ o.steps_before + cost_of job c
+    steps-bound = elim run.costs [
+      | inl none ↦ omega arith
+      | inr read ↦ subst (λ (d : Netlist). o.steps_after ≤ o.steps_before + cost_of job d) (read_is read.0 read.1.at_end read.1.is_text) read.2
+    ]
+
+-- WHEN EACH ANSWER COMES
+
+module _ (one : FirstFailureIsOne) (none : NoneFailsWhereAllPass) (job : Job) (words : List Word) (o : Outside) (text : List ℕ) (status : Status) where
+  pub answers : (due : Status) → EndsOn job words o text status → IsDue job words text due → OneOf status (due ∷ ReadFault ∷ NoMemory ∷ [])
+  answers due (Long e long) (inl more) = inl (e ∙ sym more.1)
+  answers due (Long e long) (inr fails) = let within = fails.0 in absurd (omega arith)
+  answers due (Fails end within h) (inl more) = let long = more.0 in absurd (omega arith)
+  answers due (Fails end within h) (inr fails) = inl (one (checks_of job words) text status due h fails.1)
+  answers due (Does end within pass did) (inl more) = let long = more.0 in absurd (omega arith)
+  answers due (Does end within pass did) (inr fails) = absurd (none (checks_of job words) text due pass fails.1)
+  answers due (Breaks (inl read)) is = inr (inl read)
+  answers due (Breaks (inr memory)) is = inr (inr (inl memory))
+
+-- a line is written with these statuses alone
+Writes-late : (line : List ℕ) (before now : Option (List ℕ)) (status : Status) → Writes line before now status → (status ≡ Done) ⊎ (status ≡ WriteFault)
+Writes-late line before now Done h = inl refl
+Writes-late line before now WriteFault h = inr refl
+Writes-late line before now status h = absurd h
+
+-- and a job did what it does with these alone
+IsLate : Status → Type 0
+IsLate status = (status ≡ TapeFault) ⊎ ((status ≡ Done) ⊎ (status ≡ WriteFault))
+
+Evaluated-late : (text : List ℕ) (hex : Word) (d : ℕ) (o : Outside) (status : Status) → Evaluated text hex d o status → IsLate status
+unfolding IsLate
+Evaluated-late text hex d o TapeFault h = inl refl
+Evaluated-late text hex d o status h = inr (Writes-late h.line o.out_before o.out_after status h.written)
+
+Did-late : (job : Job) (words : List Word) (o : Outside) (text : List ℕ) (status : Status) → Did job words o text status → IsLate status
+unfolding IsLate
+Did-late (jobs.Eval order) words o text status h = Evaluated-late text _ order o status h
+Did-late jobs.Check words o text status h = inr (Writes-late h.line o.out_before o.out_after status h.written)
+Did-late jobs.Upgrade words o text status h = inr (Writes-late _ o.out_before o.out_after status h.written)
+Did-late (jobs.Probe order) words o text status h = inr (Writes-late h.report o.out_before o.out_after status h.written)
+
+module _ (none : NoneFailsWhereAllPass) (job : Job) (words : List Word) (o : Outside) (text : List ℕ) (status : Status) (can : CanBeDone job words text)
+    (no_read : status ≡ ReadFault → ⊥) (no_tape : status ≡ TapeFault → ⊥) (no_write : status ≡ WriteFault → ⊥) where
+  late : IsLate status → (status ≡ Done) ⊎ (status ≡ NoMemory)
+  unfolding IsLate
+  late (inl tape) = absurd (no_tape tape)
+  late (inr (inl done)) = inl done
+  late (inr (inr write)) = absurd (no_write write)
+
+  pub complete : EndsOn job words o text status → (status ≡ Done) ⊎ (status ≡ NoMemory)
+  complete (Long e long) = let within = can.0 in absurd (omega arith)
+  complete (Fails end within h) = absurd (none (checks_of job words) text status can.1 h)
+  complete (Does end within pass did) = late (Did-late job words o text status did)
+  complete (Breaks (inl read)) = absurd (no_read read)
+  complete (Breaks (inr memory)) = inr memory

@@ -1,14 +1,18 @@
--- What a watch was told in between: nothing, or one secure call.
-use Rattle.std.proofs.Common.{◌≡◌, ℕ, zero, suc, ◌≤◌, Bool, List, [], ◌∷◌, Some, None, refl, sym, ap, ◌∙◌, arith, All}
-use Rattle.std.proofs.lemmas.List.{append-nil}
+-- What a watch was told in between: nothing, or one secure evaluation.
+use Rattle.std.proofs.Common.{◌≡◌, ℕ, zero, suc, ◌+◌, ◌*◌, ◌/◌, ◌<◌, ◌≤◌, Bool, List, [], ◌∷◌, length, take, drop, get_or, Some, None, refl, sym, ap, ◌∙◌, arith, All, length-drop}
+use Rattle.std.proofs.lemmas.List.{append-nil, length-take-le}
 use Rattle.std.specs.declared.option.Option.{Option}
 use Rattle.mask_circuit.specs.Netlist.{Netlist, IsCircuit}
+use Rattle.mask_circuit.specs.Ring.{bits}
+use Rattle.mask_circuit.specs.Expansion.{draws}
 use Rattle.mask_circuit.specs.Acceptance.{IsAccepted}
 use Rattle.mask_laws.proofs.Strengthening.{strong_is_sni}
 use Rattle.mask_check.specs.Security.{IsNIAtEachOrder}
 use Rattle.mask_bits.specs.Reading.{low}
+use Rattle.mask_bits.proofs.Bytes.{length-low}
+use Rattle.mask_shares.specs.Sharing.{all_shared}
 use Rattle.mask_eval.specs.Watching.{Told, told_more}
-use Rattle.mask_run.specs.Calls.{eval_call, Evaluates, IsSecure, TellsSecureCalls}
+use Rattle.mask_run.specs.Calls.{eval_bits, eval_call, Evaluates, IsEvaluation, IsSecure, TellsSecureCalls}
 
 -- nothing more
 told_more-nil : (told : Option (List Told)) → told_more told [] ≡ told
@@ -18,16 +22,48 @@ told_more-nil (Some calls) = ap Some (append-nil calls)
 pub TellsSecureCalls-none : (before now : Option (List Told)) → now ≡ before → TellsSecureCalls before now
 TellsSecureCalls-none before now same = ([], same ∙ sym (told_more-nil before), λ k d lt. absurd (omega arith))
 
+-- THE CALL IS AN EVALUATION
+
+length-all_shared : (d : ℕ) (bs r : List Bool) → length (all_shared bits d bs r) ≡ length bs
+length-all_shared d [] r = refl
+length-all_shared d (b ∷ bs) r = ap suc (length-all_shared d bs (drop d r))
+
+-- each value has d shares more than one, where there are coins enough
+all_shared-sizes : (d : ℕ) (bs r : List Bool) → d * length bs ≤ length r → All (λ value. length value ≡ suc d) (all_shared bits d bs r)
+all_shared-sizes d [] r enough k e lt = absurd (omega arith)
+all_shared-sizes d (b ∷ bs) r enough zero e lt = ap suc (length-take-le d r (omega arith))
+all_shared-sizes d (b ∷ bs) r enough (suc k) e lt =
+    all_shared-sizes d bs (drop d r) (omega (arith, length-drop d r)) k e (omega arith)
+
+IsEvaluation-eval_call : (c : Netlist) (d : ℕ) (inputs r : List Bool) → length inputs ≡ c.inputs → eval_bits c d ≤ length r → IsEvaluation (eval_call c d inputs r)
+IsEvaluation-eval_call c d inputs r count enough =
+    let coins : d * length inputs ≡ d * c.inputs = ap (λ (n : ℕ). d * n) count in
+    record {
+      shares = all_shared bits d inputs r;
+      count = length-all_shared d inputs r ∙ count;
+      sizes = all_shared-sizes d inputs r (omega arith);
+      inputs = refl;
+      tape = length-take-le (draws c (suc d)) (drop (d * length inputs) r) (omega (arith, length-drop (d * length inputs) r));
+      outputs = refl;
+    }
+
+-- AND SECURE
+
 -- the one call of an accepted circuit
 pub TellsSecureCalls-evaluated : (c : Netlist) (d : ℕ) (inputs : List Bool) (tape tape' : Option (List ℕ)) (told told' : Option (List Told)) →
-    Evaluates c d inputs tape tape' told told' → 1 ≤ d → d ≤ 7 → IsCircuit c → IsAccepted c → IsNIAtEachOrder c → TellsSecureCalls told told'
-TellsSecureCalls-evaluated c d inputs tape tape' told told' evaluates some few circuit accepted secure =
+    Evaluates c d inputs tape tape' told told' → length inputs ≡ c.inputs → 1 ≤ d → d ≤ 7 → IsCircuit c → IsAccepted c → IsNIAtEachOrder c →
+    TellsSecureCalls told told'
+TellsSecureCalls-evaluated c d inputs tape tape' told told' evaluates count some few circuit accepted secure =
     (eval_call c d inputs (low evaluates.fresh) ∷ [], evaluates.tells, one)
   where
+    enough : eval_bits c d ≤ length (low evaluates.fresh)
+    enough = omega (arith, length-low evaluates.fresh, evaluates.count)
+
     call : IsSecure (eval_call c d inputs (low evaluates.fresh))
     call = record {
       some = some;
       few = few;
+      evaluation = IsEvaluation-eval_call c d inputs (low evaluates.fresh) count enough;
       accepted = accepted;
       non_interfering = secure (suc d) (omega arith);
       strongly = strong_is_sni c (suc d) (omega arith) circuit.formed;

@@ -42,11 +42,22 @@ pub record Evaluates (c : Netlist) (d : ℕ) (inputs : List Bool) (tape tape' : 
   pub drawn : Takes tape tape' fresh
   pub tells : told' ≡ told_more told (eval_call c d inputs (low fresh) ∷ [])
 
--- A call of an accepted circuit at an order from 1 to 7: it is non-interfering at this order, and strongly so where it
--- is strong.
+-- The record is an evaluation: the circuit expanded into shares takes the told shares of the inputs, value by value, to the
+-- told shares of the outputs, with the told bits as its tape.
+pub record IsEvaluation (t : Told) : Type 0 where
+  pub shares : List (List Bool)
+  pub count : length shares ≡ t.circuit.inputs
+  pub sizes : All (λ value. length value ≡ suc t.order) shares
+  pub inputs : t.inputs ≡ value_by_value shares
+  pub tape : length t.tape ≡ draws t.circuit (suc t.order)
+  pub outputs : t.outputs ≡ value_by_value (outs bits t.circuit (suc t.order) (all_listed bits shares) t.tape)
+
+-- An evaluation of an accepted circuit at an order from 1 to 7: it is non-interfering at this order, and strongly so where
+-- it is strong.
 pub record IsSecure (t : Told) : Type 0 where
   pub some : 1 ≤ t.order
   pub few : t.order ≤ 7
+  pub evaluation : IsEvaluation t
   pub accepted : IsAccepted t.circuit
   pub non_interfering : IsNI t.circuit (suc t.order)
   pub strongly : IsStrong t.circuit → IsSNI t.circuit (suc t.order)

@@ -1,11 +1,6 @@
 pub mod Calls
-pub mod Checking
 pub mod Evaluating
 pub mod Hexadecimal
 pub mod Lanes
 pub mod Outside
-pub mod Probing
 pub mod Promises
-pub mod Statuses
-pub mod Texts
-pub mod Upgrading

@@ -1,15 +1,17 @@
--- What the objects of the outside show before a run and after it, and which statuses leave them as they were.
+-- What the objects of the outside show before a run and after it, and which statuses of a job leave them as they were.
 use Rattle.std.specs.Prelude.{◌≡◌, ℕ, ◌+◌, ◌/◌, List}
 use Rattle.std.specs.declared.option.Option.{Option}
-use Rattle.std.specs.Io.KnownBytes.{Appends}
-use Rattle.mask_io.specs.Outside.{AppendsProperPrefix}
 use Rattle.mask_eval.specs.Watching.{Told}
-use Rattle.mask_run.specs.declared.status.Status.{Status}
-use Rattle.mask_run.specs.declared.status.Status.TheVariants.{Done, TapeFault, WriteFault, NoMemory}
+use Rattle.mask_words.specs.declared.table.Job.{Job}
+use Rattle.mask_words.specs.declared.table.Job.TheVariants as jobs
+use Rattle.mask_status.specs.declared.status.Status.{Status}
+use Rattle.mask_status.specs.declared.status.Status.TheVariants.{Done, TooLong, ReadFault, TapeFault, WriteFault, NoMemory}
 
--- The bytes that the tape has left and that were written, and what the watch was told, each where the object tells it;
--- and what the tape wants in the end.
+-- The bytes that input and tape have left and that were written, and what the watch was told, each where the object tells
+-- it; what the tape wants in the end; and the steps.
 pub record Outside : Type 0 where
+  pub left_before : Option (List ℕ)
+  pub left_after : Option (List ℕ)
   pub tape_before : Option (List ℕ)
   pub tape_after : Option (List ℕ)
   pub wanted : ℕ
@@ -17,6 +19,8 @@ pub record Outside : Type 0 where
   pub out_after : Option (List ℕ)
   pub told_before : Option (List Told)
   pub told_after : Option (List Told)
+  pub steps_before : ℕ
+  pub steps_after : ℕ
 
 -- so many bits, rounded up to bytes
 abbrev pub bytes_for : ℕ → ℕ
@@ -26,31 +30,33 @@ bytes_for bits = (bits + 7) / 8
 abbrev pub IsIdle : Outside → Type 0
 IsIdle o = (o.tape_after ≡ o.tape_before) × (o.told_after ≡ o.told_before)
 
--- the line was written whole with Done, and a proper prefix of it with a fault of writing
-abbrev pub Writes : List ℕ → Option (List ℕ) → Option (List ℕ) → Status → Type 0
-Writes line before now Done = Appends before now line
-Writes line before now WriteFault = AppendsProperPrefix before now line
-Writes line before now status = ⊥
+-- with this status nothing is left of the input
+abbrev pub LeavesNothing : Status → Type 0
+LeavesNothing (TooLong limit) = ⊥
+LeavesNothing ReadFault = ⊥
+LeavesNothing NoMemory = ⊥
+LeavesNothing status = Unit {0}
 
--- a status with which nothing was written, and the watch was told nothing
-abbrev pub ComesBeforeWriting : Status → Type 0
-ComesBeforeWriting Done = ⊥
-ComesBeforeWriting WriteFault = ⊥
-ComesBeforeWriting status = Unit {0}
+-- the job left the tape as it was: it has nothing to do with it, or ended before it was asked for anything
+abbrev pub LeavesTape : Job → Status → Type 0
+LeavesTape (jobs.Eval order) Done = ⊥
+LeavesTape (jobs.Eval order) TapeFault = ⊥
+LeavesTape (jobs.Eval order) WriteFault = ⊥
+LeavesTape job status = Unit {0}
 
--- a status with which nothing was drawn: the tape wasn't asked for anything
-abbrev pub ComesBeforeDrawing : Status → Type 0
-ComesBeforeDrawing Done = ⊥
-ComesBeforeDrawing TapeFault = ⊥
-ComesBeforeDrawing WriteFault = ⊥
-ComesBeforeDrawing status = Unit {0}
+-- the job left the watch as it was: it wasn't even made ready
+abbrev pub LeavesWatch : Job → Status → Type 0
+LeavesWatch (jobs.Eval order) NoMemory = ⊥
+LeavesWatch job status = LeavesTape job status
 
--- a status with which the watch wasn't even made ready
-abbrev pub ComesBeforeWatching : Status → Type 0
-ComesBeforeWatching NoMemory = ⊥
-ComesBeforeWatching status = ComesBeforeDrawing status
+-- the job told the watch nothing
+abbrev pub TellsNothing : Job → Status → Type 0
+TellsNothing (jobs.Eval order) Done = ⊥
+TellsNothing (jobs.Eval order) WriteFault = ⊥
+TellsNothing job status = Unit {0}
 
--- a status of a command that has no tape
-abbrev pub NeedsNoTape : Status → Type 0
-NeedsNoTape TapeFault = ⊥
-NeedsNoTape status = Unit {0}
+-- the job wrote nothing
+abbrev pub WritesNothing : Job → Status → Type 0
+WritesNothing job Done = ⊥
+WritesNothing job WriteFault = ⊥
+WritesNothing job status = Unit {0}

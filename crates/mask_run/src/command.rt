@@ -1,26 +1,25 @@
 //! The top call.
 
-ghost use Rattle.std.specs.Prelude.{◌≡◌, ◌⊎◌, ℕ, ◌+◌, ◌≤◌, [], List, length, Some};
+ghost use Rattle.std.specs.Prelude.{◌≡◌, ◌⊎◌, ℕ, ◌+◌, ◌≤◌, [], ◌∷◌, List, Some};
 ghost use Rattle.mask_io.specs.Outside.{Rose};
 ghost use Rattle.mask_circuit.specs.Netlist.{Netlist};
-ghost use Rattle.mask_check.specs.Costs.{most_steps};
-ghost use Rattle.mask_words.specs.Jobs.{IsJob, IsRefused};
+ghost use Rattle.mask_text.specs.Text.{IsTextOf};
+ghost use Rattle.mask_text.specs.Answers.{TakesFront};
+ghost use Rattle.mask_words.specs.Jobs.{IsJob, IsRefused, HasOrder, HasWords};
 ghost use Rattle.mask_words.specs.declared.table.Job.{Job};
-ghost use Rattle.mask_words.specs.declared.table.Job.TheVariants.{Eval};
-ghost use Rattle.mask_run.specs.Outside.{Outside, ComesBeforeDrawing, ComesBeforeWatching, ComesBeforeWriting};
-ghost use Rattle.mask_run.specs.Texts.{Stands};
-ghost use Rattle.mask_run.specs.Calls.{eval_bits, TellsSecureCalls};
-ghost use Rattle.mask_run.specs.Promises.{Ends, Answers, CanBeDone, EvaluatesNothing};
+ghost use Rattle.mask_status.specs.declared.status.Status.{Status};
+ghost use Rattle.mask_status.specs.declared.status.Status.TheVariants.{ReadFault, NoMemory};
+ghost use Rattle.mask_run.specs.Outside.{Outside, LeavesNothing, LeavesTape, LeavesWatch, TellsNothing, WritesNothing};
+ghost use Rattle.mask_run.specs.Calls.{TellsSecureCalls};
+ghost use Rattle.mask_run.specs.Promises.{Runs, EndsOn, IsDue, CanBeDone, OneOf, cost_of, bits_of};
 
-use crate::checking::check;
 use crate::evaluating::eval;
-use crate::probing::probe;
-use crate::status::Status;
-use crate::upgrading::upgrade;
 use mask_circuit::Steps;
 use mask_eval::Watch;
+use mask_inspect::{check, checks_decide, probe, upgrade};
 use mask_io::{Entropy, Sink, Source};
-use mask_words::{BadWords, Job, Words, read_words};
+use mask_status::Status;
+use mask_words::{BadWords, Job, Words, read_words, words_have_one_answer};
 use std::alloc::Global;
 use std::sync::ledger::Ledger;
 
@@ -41,14 +40,16 @@ pub fn mask_main<K: Source, S: Source, E: Entropy, O: Sink, W: Watch, L: Ledger>
     watch: &mut W,
     steps: &mut Steps<L>,
 ) -> Status
-    // Words that are no job: the place, and nothing is touched.
+    // Words are a job or are refused: then at this place, and nothing is touched.
+    ensures words { ((job : Job) × IsJob words.now job) ⊎ ((place : ℕ) × IsRefused words.now place) }
     ensures refused { (place : ℕ) → IsRefused words.now place → (result ≡ Status.BadWords place)
         × (input.new ≡ input.old) × (tape.new ≡ tape.old) × (out.new ≡ out.old) × (watch.new ≡ watch.old) × (steps.new ≡ steps.old) }
 
-    // What each status says of the job, and when each answer comes.
-    ensures ends { (job : Job) (text : List ℕ) → IsJob words.now job → S.left input.old ≡ Some text →
-        Ends job words.now text
+    // What each status says of the job, and of the bytes that were taken from the input, whatever source they came from.
+    ensures ends { (job : Job) → IsJob words.now job → Runs job words.now
         (record {
+          left_before = S.left input.old;
+          left_after = S.left input.new;
           tape_before = E.left tape.old;
           tape_after = E.left tape.new;
           wanted = E.wanted tape.new;
@@ -56,21 +57,41 @@ pub fn mask_main<K: Source, S: Source, E: Entropy, O: Sink, W: Watch, L: Ledger>
           out_after = O.written out.new;
           told_before = W.told watch.old;
           told_after = W.told watch.new;
-        }) result }
-    ensures answers { (job : Job) (text : List ℕ) → IsJob words.now job → S.left input.old ≡ Some text →
-        Answers job words.now text result }
+          steps_before = steps.old;
+          steps_after = steps.new;
+        }) (tape.new ≡ tape.old) result }
+    ensures front { TakesFront (S.left input.old) (S.left input.new) }
+
+    // The same of the text that the input had left, where it tells that.
+    ensures told { (job : Job) (text : List ℕ) → IsJob words.now job → S.left input.old ≡ Some text → EndsOn job words.now
+        (record {
+          left_before = S.left input.old;
+          left_after = S.left input.new;
+          tape_before = E.left tape.old;
+          tape_after = E.left tape.new;
+          wanted = E.wanted tape.new;
+          out_before = O.written out.old;
+          out_after = O.written out.new;
+          told_before = W.told watch.old;
+          told_after = W.told watch.new;
+          steps_before = steps.old;
+          steps_after = steps.new;
+        }) text result }
+    ensures all_read { (job : Job) (text : List ℕ) → IsJob words.now job → S.left input.old ≡ Some text → LeavesNothing result →
+        S.left input.new ≡ Some [] }
+
+    // When each answer comes: only a fault of reading and want of memory come before the status that is due.
+    ensures answers { (job : Job) (text : List ℕ) (due : Status) → IsJob words.now job → S.left input.old ≡ Some text →
+        IsDue job words.now text due → OneOf result (due ∷ ReadFault ∷ NoMemory ∷ []) }
 
     // A job that can be done is done, unless an object fails or memory is wanting.
     ensures complete { (job : Job) (text : List ℕ) → IsJob words.now job → S.left input.old ≡ Some text → CanBeDone job words.now text →
         (Rose (S.faults input.old) (S.faults input.new) → ⊥) → (Rose (E.faults tape.old) (E.faults tape.new) → ⊥) →
         (Rose (O.faults out.old) (O.faults out.new) → ⊥) → (result ≡ Status.Done) ⊎ (result ≡ Status.NoMemory) }
 
-    // On every command and status: each circuit that the watch was told is accepted, and non-interfering at the order at
-    // which it was told; and strongly so where it is strong.
+    // On every command and status: each record that the watch was told is an evaluation of an accepted circuit, which is
+    // non-interfering at the order at which it was told; and strongly so where it is strong.
     ensures secure { TellsSecureCalls (W.told watch.old) (W.told watch.new) }
-
-    // With Done nothing is left of the input.
-    ensures all_read { result ≡ Status.Done → (text : List ℕ) → S.left input.old ≡ Some text → S.left input.new ≡ Some [] }
 
     // A fault comes only where the count of its object rose.
     ensures read_fault { result ≡ Status.ReadFault → Rose (S.faults input.old) (S.faults input.new) }
@@ -78,32 +99,70 @@ pub fn mask_main<K: Source, S: Source, E: Entropy, O: Sink, W: Watch, L: Ledger>
     ensures write_fault { result ≡ Status.WriteFault → Rose (O.faults out.old) (O.faults out.new) }
     ensures wants { result ≡ Status.TapeFault → 1 ≤ E.wanted tape.new }
 
-    // A tape of which nothing is wanted isn't asked.
-    ensures idle { (order : ℕ) (text : List ℕ) (c : Netlist) → IsJob words.now (Eval order) → S.left input.old ≡ Some text →
-        Stands text c → eval_bits c order ≡ 0 → tape.new ≡ tape.old }
+    // A tape of which nothing is wanted isn't asked, and a circuit costs at most so many steps.
+    ensures idle { (job : Job) (text : List ℕ) (c : Netlist) → IsJob words.now job → S.left input.old ≡ Some text → IsTextOf text c →
+        bits_of job c ≡ 0 → tape.new ≡ tape.old }
+    ensures cost { (job : Job) (text : List ℕ) (c : Netlist) → IsJob words.now job → S.left input.old ≡ Some text → IsTextOf text c →
+        steps.new ≤ steps.old + cost_of job c }
 
     // What stays as it was.
     ensures keys { keys.new ≡ keys.old }
-    ensures undrawn { ComesBeforeDrawing result → tape.new ≡ tape.old }
-    ensures unwatched { ComesBeforeWatching result → watch.new ≡ watch.old }
-    ensures untold { ComesBeforeWriting result → W.told watch.new ≡ W.told watch.old }
-    ensures unwritten { ComesBeforeWriting result → out.new ≡ out.old }
-    ensures apart { (job : Job) → IsJob words.now job → EvaluatesNothing job → (tape.new ≡ tape.old) × (watch.new ≡ watch.old) }
-
-    // A circuit costs at most so many steps.
-    ensures cost { (text : List ℕ) (c : Netlist) → S.left input.old ≡ Some text → Stands text c →
-        steps.new ≤ steps.old + (most_steps c + length c.gates) }
+    ensures undrawn { (job : Job) → IsJob words.now job → LeavesTape job result → tape.new ≡ tape.old }
+    ensures unwatched { (job : Job) → IsJob words.now job → LeavesWatch job result → watch.new ≡ watch.old }
+    ensures untold { (job : Job) → IsJob words.now job → TellsNothing job result → W.told watch.new ≡ W.told watch.old }
+    ensures unwritten { (job : Job) → IsJob words.now job → WritesNothing job result → out.new ≡ out.old }
 {
     let _untouched = keys;
+    words_have_one_answer();
+    checks_decide();
     let job = match read_words(words) {
         Ok(job) => job,
         Err(BadWords { place }) => return Status::BadWords { place },
     };
+    run_job(alloc, job, words, input, tape, out, watch, steps)
+}
+
+// The job that the words are.
+fn run_job<S: Source, E: Entropy, O: Sink, W: Watch, L: Ledger>(
+    alloc: Global,
+    job: Job,
+    words: &Words,
+    input: &mut S,
+    tape: &mut E,
+    out: &mut O,
+    watch: &mut W,
+    steps: &mut Steps<L>,
+) -> Status
+    requires order { HasOrder job }
+    requires words { HasWords words.now job }
+    ensures ends { Runs job words.now
+        (record {
+          left_before = S.left input.old;
+          left_after = S.left input.new;
+          tape_before = E.left tape.old;
+          tape_after = E.left tape.new;
+          wanted = E.wanted tape.new;
+          out_before = O.written out.old;
+          out_after = O.written out.new;
+          told_before = W.told watch.old;
+          told_after = W.told watch.new;
+          steps_before = steps.old;
+          steps_after = steps.new;
+        }) (tape.new ≡ tape.old) result }
+    ensures front { TakesFront (S.left input.old) (S.left input.new) }
+    ensures secure { TellsSecureCalls (W.told watch.old) (W.told watch.new) }
+    ensures read_fault { result ≡ Status.ReadFault → Rose (S.faults input.old) (S.faults input.new) }
+    ensures tape_fault { result ≡ Status.TapeFault → Rose (E.faults tape.old) (E.faults tape.new) }
+    ensures write_fault { result ≡ Status.WriteFault → Rose (O.faults out.old) (O.faults out.new) }
+    ensures wants { result ≡ Status.TapeFault → 1 ≤ E.wanted tape.new }
+    ensures undrawn { LeavesTape job result → tape.new ≡ tape.old }
+    ensures unwatched { LeavesWatch job result → watch.new ≡ watch.old }
+    ensures untold { TellsNothing job result → W.told watch.new ≡ W.told watch.old }
+    ensures unwritten { WritesNothing job result → out.new ≡ out.old }
+{
     // Each arm returns by itself, so that what it promises stands apart from the others.
     match job {
-        Job::Eval { order } => {
-            return eval(alloc, order, words.word(4), input, tape, out, watch, steps);
-        }
+        Job::Eval { order } => return eval(alloc, order, words, input, tape, out, watch, steps),
         Job::Check => return check(alloc, input, out, steps),
         Job::Upgrade => return upgrade(alloc, input, out),
         Job::Probe { order } => return probe(alloc, order, words, input, out, steps),

@@ -1,36 +1,40 @@
 //! `eval`: the output bits of a circuit that is evaluated on shares.
 
-ghost use Rattle.std.specs.Prelude.{◌≡◌, ℕ, ◌+◌, ◌≤◌, [], List, length, Some, IfOk, IfErr, OnOk, OnErr, IsTrue, IsErrOf};
+ghost use Rattle.std.specs.Prelude.{◌≡◌, ◌+◌, ◌≤◌, [], ◌∷◌, length, IfOk, IfErr, OnOk, OnErr, IsTrue, IsErrOf};
 ghost use Rattle.mask_io.specs.Outside.{Rose};
-ghost use Rattle.mask_circuit.specs.Netlist.{Netlist};
 ghost use Rattle.mask_circuit.specs.Value.{plain};
 ghost use Rattle.mask_check.specs.Costs.{most_steps};
+ghost use Rattle.mask_text.specs.Answers.{TakesFront};
 ghost use Rattle.mask_tape.specs.declared.tape.TapeError.TheVariants.{Failed, NoMemory};
 ghost use Rattle.mask_words.specs.WordTests.{is_hex_text};
-ghost use Rattle.mask_run.specs.Outside.{Outside, ComesBeforeDrawing, ComesBeforeWatching, ComesBeforeWriting, bytes_for};
-ghost use Rattle.mask_run.specs.Texts.{Stands};
+ghost use Rattle.mask_words.specs.Jobs.{EvalWords};
+ghost use Rattle.mask_words.specs.declared.table.Job.TheVariants.{Eval};
+ghost use Rattle.mask_inspect.specs.Checks.{Grammar, Inputs, Acceptance};
+ghost use Rattle.mask_inspect.specs.Ends.{Takes, Stops, CostsAtMost, IsEarly};
+ghost use Rattle.mask_run.specs.Outside.{Outside, LeavesTape, LeavesWatch, TellsNothing, WritesNothing, bytes_for};
 ghost use Rattle.mask_run.specs.Calls.{eval_bits, Evaluates, TellsSecureCalls};
-ghost use Rattle.mask_run.specs.Evaluating.{Prepares, RefusesEval, EvalEnds};
+ghost use Rattle.mask_run.specs.Evaluating.{Prepares};
 ghost use Rattle.mask_run.specs.Hexadecimal.{IsReport};
+ghost use Rattle.mask_run.specs.Promises.{Runs};
 
 use crate::evaluation::{Prepared, evaluate};
 use crate::hexadecimal::input_bits;
-use crate::reading::{admitted, read};
-use crate::status::Status;
-use crate::writing::send;
 use mask_circuit::Steps;
 use mask_eval::Watch;
+use mask_inspect::{admitted, read, send};
 use mask_io::{Entropy, Sink, Source};
+use mask_status::Status;
 use mask_tape::TapeError;
+use mask_words::Words;
 use std::alloc::Global;
 use std::sync::ledger::Ledger;
 
-/// Reads a circuit from all that the input has left, evaluates it at this order on the bits of `hex`, and writes its
-/// output bits.
+/// Reads a circuit from all that the input has left, evaluates it at this order on the bits that the fifth word names, and
+/// writes its output bits.
 pub fn eval<S: Source, E: Entropy, O: Sink, W: Watch, L: Ledger>(
     alloc: Global,
     order: u32,
-    hex: &str,
+    words: &Words,
     input: &mut S,
     tape: &mut E,
     out: &mut O,
@@ -39,9 +43,11 @@ pub fn eval<S: Source, E: Entropy, O: Sink, W: Watch, L: Ledger>(
 ) -> Status
     requires some { 1 ≤ order }
     requires few { order ≤ 7 }
-    requires hex { IsTrue (is_hex_text hex.now) }
-    ensures ends { (text : List ℕ) → S.left input.old ≡ Some text → EvalEnds text hex.now order
+    requires words { EvalWords words.now order }
+    ensures ends { Runs (Eval order) words.now
         (record {
+          left_before = S.left input.old;
+          left_after = S.left input.new;
           tape_before = E.left tape.old;
           tape_after = E.left tape.new;
           wanted = E.wanted tape.new;
@@ -49,22 +55,21 @@ pub fn eval<S: Source, E: Entropy, O: Sink, W: Watch, L: Ledger>(
           out_after = O.written out.new;
           told_before = W.told watch.old;
           told_after = W.told watch.new;
-        }) result }
-    ensures all_read { result ≡ Status.Done → (text : List ℕ) → S.left input.old ≡ Some text → S.left input.new ≡ Some [] }
+          steps_before = steps.old;
+          steps_after = steps.new;
+        }) (tape.new ≡ tape.old) result }
+    ensures front { TakesFront (S.left input.old) (S.left input.new) }
     ensures secure { TellsSecureCalls (W.told watch.old) (W.told watch.new) }
     ensures read_fault { result ≡ Status.ReadFault → Rose (S.faults input.old) (S.faults input.new) }
     ensures tape_fault { result ≡ Status.TapeFault → Rose (E.faults tape.old) (E.faults tape.new) }
     ensures write_fault { result ≡ Status.WriteFault → Rose (O.faults out.old) (O.faults out.new) }
     ensures wants { result ≡ Status.TapeFault → 1 ≤ E.wanted tape.new }
-    ensures idle { (text : List ℕ) (c : Netlist) → S.left input.old ≡ Some text → Stands text c → eval_bits c order ≡ 0 → tape.new ≡ tape.old }
-    ensures undrawn { ComesBeforeDrawing result → tape.new ≡ tape.old }
-    ensures untold { ComesBeforeWriting result → W.told watch.new ≡ W.told watch.old }
-    ensures unwatched { ComesBeforeWatching result → watch.new ≡ watch.old }
-    ensures unwritten { ComesBeforeWriting result → out.new ≡ out.old }
-    ensures steps { (text : List ℕ) (c : Netlist) → S.left input.old ≡ Some text → Stands text c →
-        steps.new ≤ steps.old + (most_steps c + length c.gates) }
+    ensures undrawn { LeavesTape (Eval order) result → tape.new ≡ tape.old }
+    ensures unwatched { LeavesWatch (Eval order) result → watch.new ≡ watch.old }
+    ensures untold { TellsNothing (Eval order) result → W.told watch.new ≡ W.told watch.old }
+    ensures unwritten { WritesNothing (Eval order) result → out.new ≡ out.old }
 {
-    let prepared = match prepare(alloc, hex, input, steps) {
+    let prepared = match prepare(alloc, words.word(4), input, steps) {
         Ok(prepared) => prepared,
         Err(status) => return status,
     };
@@ -83,12 +88,14 @@ fn prepare<S: Source, L: Ledger>(
     steps: &mut Steps<L>,
 ) -> Result<Prepared, Status>
     requires { IsTrue (is_hex_text hex.now) }
-    ensures ok { IfOk result (λ p. (text : List ℕ) → S.left input.old ≡ Some text →
-        Prepares text hex.now p.circuit p.inputs × (S.left input.new ≡ Some [])) }
-    ensures err { IfErr result (λ status. (text : List ℕ) → S.left input.old ≡ Some text → RefusesEval text hex.now status) }
-    ensures early { IfErr result ComesBeforeDrawing }
+    ensures ok { IfOk result (λ p. Takes (S.left input.old) (S.left input.new) (λ bytes.
+        Prepares bytes (S.left input.new) hex.now p.circuit p.inputs × (steps.new ≤ steps.old + most_steps p.circuit))) }
+    ensures err { IfErr result (λ status. Takes (S.left input.old) (S.left input.new) (λ bytes.
+        Stops (Grammar ∷ Inputs hex.now ∷ Acceptance ∷ []) bytes (S.left input.new) status
+        × CostsAtMost most_steps steps.old steps.new bytes (S.left input.new))) }
+    ensures early { IfErr result IsEarly }
+    ensures front { TakesFront (S.left input.old) (S.left input.new) }
     ensures read_fault { IsErrOf result Status.ReadFault → Rose (S.faults input.old) (S.faults input.new) }
-    ensures steps { (text : List ℕ) (c : Netlist) → S.left input.old ≡ Some text → Stands text c → steps.new ≤ steps.old + most_steps c }
 {
     let circuit = match read(alloc, input) {
         Ok(circuit) => circuit,

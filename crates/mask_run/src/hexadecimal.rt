@@ -5,10 +5,12 @@ ghost use Rattle.std.specs.List.{AllWithin};
 ghost use Rattle.hex.specs.Hex.{encode_lower};
 ghost use Rattle.mask_words.specs.WordTests.{is_hex_text};
 ghost use Rattle.mask_bits.specs.Reading.{low};
-ghost use Rattle.mask_run.specs.Hexadecimal.{hex_bytes, FitInputs, IsInputOf, IsReport};
+ghost use Rattle.mask_words.specs.Naming.{hex_bytes};
+ghost use Rattle.mask_inspect.specs.Checks.{FitInputs};
+ghost use Rattle.mask_run.specs.Hexadecimal.{IsInputOf, IsReport};
 
-use hex::FromHexError;
 use mask_bits::{Bits, bits_low_first, pack_low};
+use mask_words::hex_bytes;
 use std::alloc::{AllocError, Global};
 
 /// The bits that `word` names for a circuit with so many inputs, where they fit it.
@@ -26,24 +28,6 @@ pub fn input_bits(alloc: Global, word: &str, inputs: u32) -> Result<Option<Bits>
         return Ok(None);
     }
     Ok(Some(first_bits(alloc, &bits, inputs)?))
-}
-
-// The bytes that the word names: none for `-`.
-fn hex_bytes(alloc: Global, word: &str) -> Result<Vec<u8>, AllocError>
-    requires { IsTrue (is_hex_text word.now) }
-    ensures { IfOk result (λ bytes. bytes.items ≡ hex_bytes word.now) }
-{
-    if word == "-" {
-        return Ok(Vec::new(alloc));
-    }
-    match hex::decode(alloc, word) {
-        Ok(bytes) => Ok(bytes),
-        Err(error) => {
-            // The word is an even number of digits, so only memory can be wanting.
-            prove!(matches!(&error, FromHexError::OutOfMemory));
-            Err(AllocError)
-        }
-    }
 }
 
 fn are_zeros_from(bits: &Bits, start: usize) -> bool

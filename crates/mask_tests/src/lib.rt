@@ -12,3 +12,5 @@ mod gadgets;
 mod probing;
 #[cfg(test)]
 mod runs;
+#[cfg(test)]
+mod sizes;

@@ -6,7 +6,7 @@ use mask_circuit::Steps;
 use mask_eval::ListWatch;
 use mask_io::{ClosedSource, Entropy, MemSink, Source};
 use mask_run::{Status, mask_main};
-use mask_words::{MAX_WORDS, Words};
+use mask_words::Words;
 use std::alloc::{AllocError, Global};
 use std::marker::Brand;
 use std::sync::ledger::{Blank, Ledger};
@@ -66,7 +66,7 @@ fn run_words<S: Source, E: Entropy, L: Ledger>(
 fn words_of(alloc: Global, list: &[&str]) -> Result<Words, AllocError> {
     let mut words = Words::new(alloc);
     for word in list {
-        if words.len() < MAX_WORDS {
+        if words.len() < 1_000_000 {
             words.push(word)?;
         }
     }

@@ -1,6 +1,7 @@
+pub mod Apart
+pub mod Hexadecimal
 pub mod JobWords
 pub mod Matching
 pub mod Numbers
-pub mod OneJob
 pub mod Places
 pub mod Trying

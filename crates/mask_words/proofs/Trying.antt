@@ -2,7 +2,6 @@
 use Rattle.std.proofs.Common.{◌≡◌, ◌⊎◌, ℕ, ◌+◌, ◌<◌, ◌≤◌, List, length, get_or, refl, sym, subst, arith, below_more, lit<}
 use Rattle.std.proofs.Common.{inl, inr}
 use Rattle.std.proofs.lemmas.Bool.{cases_lt}
-use Rattle.mask_words.specs.declared.command_lines.TheConstants.{MAX_WORDS}
 use Rattle.mask_words.specs.declared.table.Form.{Form}
 use Rattle.mask_words.specs.declared.table.Form.TheVariants as forms
 use Rattle.mask_words.specs.declared.table.TheConstants.{FORMS}
@@ -15,7 +14,7 @@ abbrev pub form_at : ℕ → Form
 form_at k = get_or FORMS k forms.Eval
 
 -- each form has a row
-row_of : (f : Form) → (k : ℕ) × (k < length FORMS) × (form_at k ≡ f)
+pub row_of : (f : Form) → (k : ℕ) × (k < length FORMS) × (form_at k ≡ f)
 row_of forms.Eval = (0, lit< tt, refl)
 row_of forms.Check = (1, lit< tt, refl)
 row_of forms.Upgrade = (2, lit< tt, refl)
@@ -32,7 +31,7 @@ reach_in f ws = reach (tests_of f) (tail_of f) ws
 -- the first n forms are not that of the words, and none of them reaches farther
 pub record Tried (ws : List Word) (n farthest : ℕ) : Type 0 where
   pub in_words : farthest ≤ length ws
-  pub in_limit : farthest ≤ MAX_WORDS
+  pub in_limit : farthest ≤ 1000000
   pub none : (k : ℕ) → k < n → IsForm (form_at k) ws → ⊥
   pub below : (k : ℕ) → k < n → reach_in (form_at k) ws ≤ farthest
   pub could_go_on : (q : ℕ) → q ≤ farthest → CouldGoOn ws q
@@ -51,7 +50,7 @@ Tried-none ws = record {
 }
 
 -- one more form is tried, which isn't that of the words; now is the farther of the reaches
-pub Tried-more : (ws : List Word) (n far reached now : ℕ) → Tried ws n far → reached ≡ reach_in (form_at n) ws → reached ≤ MAX_WORDS →
+pub Tried-more : (ws : List Word) (n far reached now : ℕ) → Tried ws n far → reached ≡ reach_in (form_at n) ws → reached ≤ 1000000 →
     (IsForm (form_at n) ws → ⊥) → (now ≡ far × reached ≤ far) ⊎ (now ≡ reached × far ≤ reached) → Tried ws (n + 1) now
 Tried-more ws n far reached now tried is limit other farther =
     let bound = reach-bound (tests_of (form_at n)) (tail_of (form_at n)) ws in

@@ -1,20 +1,20 @@
 -- The table of commands: which words are a job, which job they are, and where words are refused.
 use Rattle.std.specs.Prelude.{◌≡◌, ℕ, suc, ◌+◌, ◌-◌, ◌<◌, ◌≤◌, ◌⊎◌, true, cond, IsTrue, Option, None, Some, List, [], ◌∷◌, ◌++◌, length, take, slice_index, slice_index_or}
 use Rattle.mask_words.specs.declared.word_tests.Test.{Test}
-use Rattle.mask_words.specs.declared.word_tests.Test.TheVariants.{Wire}
+use Rattle.mask_words.specs.declared.word_tests.Test.TheVariants.{Given, Tape, Named, Order, Hex, Wire}
 use Rattle.mask_words.specs.declared.table.Form.{Form}
 use Rattle.mask_words.specs.declared.table.Form.TheVariants as forms
 use Rattle.mask_words.specs.declared.table.Job.{Job}
 use Rattle.mask_words.specs.declared.table.Job.TheVariants as jobs
-use Rattle.mask_words.specs.declared.table.TheConstants.{EVAL, CHECK, UPGRADE, PROBE}
+use Rattle.mask_words.specs.declared.word_tests.Command.TheVariants as commands
 use Rattle.mask_words.specs.WordTests.{Word, passes, is_hex_text, is_number}
 
 -- what the words of a form are tested for, one by one
 abbrev pub tests_of : Form → List Test
-tests_of forms.Eval = EVAL
-tests_of forms.Check = CHECK
-tests_of forms.Upgrade = UPGRADE
-tests_of forms.Probe = PROBE
+tests_of forms.Eval = Given ∷ Tape ∷ Named commands.Eval ∷ Order ∷ Hex ∷ []
+tests_of forms.Check = Given ∷ Tape ∷ Named commands.Check ∷ []
+tests_of forms.Upgrade = Given ∷ Tape ∷ Named commands.Upgrade ∷ []
+tests_of forms.Probe = Given ∷ Tape ∷ Named commands.Probe ∷ Order ∷ []
 
 -- what further words are tested for, where a form may have them
 abbrev pub tail_of : Form → Option Test

@@ -22,11 +22,13 @@ command_text Probe = codes "probe"
 abbrev pub are_hex_digits : Word → Bool
 are_hex_digits w = list_all is_ascii_hexdigit w
 
+-- 64 hexadecimal digits
+abbrev pub are_seed_digits : Word → Bool
+are_seed_digits w = length w == 64 && are_hex_digits w
+
 -- not empty; what begins with `seed:` goes on with 64 hexadecimal digits
 abbrev pub is_tape : Word → Bool
-is_tape w =
-    if starts_with nat_eq w (codes "seed:") then length (drop 5 w) == 64 && are_hex_digits (drop 5 w)
-    else not (length w == 0)
+is_tape w = if starts_with nat_eq w (codes "seed:") then are_seed_digits (drop 5 w) else not (length w == 0)
 
 -- one digit from `1` to `7`
 abbrev pub is_order : Word → Bool

@@ -2,15 +2,11 @@
 
 ghost use Rattle.std.specs.Prelude.{◌≡◌, ℕ, ◌+◌, ◌<◌, ◌≤◌, List, [], ◌∷◌, ◌++◌, length, map, OnOk, OnErr, slice_index_or};
 ghost use Rattle.std.specs.String.{string_bytes};
-ghost use Rattle.mask_words.specs.declared.command_lines.TheConstants.{MAX_WORDS};
 
 use std::alloc::{AllocError, Global};
 use std::marker::Model;
 
-/// The most words of a command line.
-pub const MAX_WORDS: usize = 1_000_000;
-
-/// The words of a command line, in order. A word is a text.
+/// The words of a command line, in order: at most 1,000,000. A word is a text.
 #[derive(Drop)]
 pub struct Words {
     words: Vec<String>,
@@ -21,7 +17,7 @@ impl Model for Words {
 
     ghost view = { λ w. map (λ s. string_bytes s) w.words.items };
 
-    ghost invariant = { λ w. length w.words.items ≤ MAX_WORDS };
+    ghost invariant = { λ w. length w.words.items ≤ 1000000 };
 }
 
 impl Words {
@@ -36,7 +32,7 @@ impl Words {
 
     /// Appends a word. After a refusal the words are as before.
     pub fn push(&mut self, word: &str) -> Result<(), AllocError>
-        requires { length self.old < MAX_WORDS }
+        requires { length self.old < 1000000 }
         ensures ok { OnOk result (self.new ≡ self.old ++ word.now ∷ []) }
         ensures err { OnErr result (self.new ≡ self.old) }
     {
@@ -49,7 +45,7 @@ impl Words {
     /// How many words there are.
     pub fn len(&self) -> usize
         ensures count { result ≡ length self.now }
-        ensures limit { length self.now ≤ MAX_WORDS }
+        ensures limit { length self.now ≤ 1000000 }
     {
         self.words.len()
     }

@@ -4,7 +4,6 @@ ghost use Rattle.std.specs.Prelude.{◌≡◌, ℕ, ◌+◌, ◌-◌, ◌*◌, �
 ghost use Rattle.std.specs.Prelude.{IsTrue, ◌↔◌};
 ghost use Rattle.mask_words.specs.WordTests.{is_order};
 ghost use Rattle.mask_words.specs.Jobs.{tests_of, tail_of, reach, Match, order_of, job_of, IsJob, IsRefused, HasOrder, HasWords, HaveOneJob, HaveOnePlace};
-ghost use Rattle.mask_words.specs.declared.command_lines.TheConstants.{MAX_WORDS};
 
 use crate::command_lines::Words;
 use crate::word_tests::{Command, Test};
@@ -22,31 +21,8 @@ pub enum Form {
     Probe,
 }
 
-/// All forms.
+/// The rows of the table.
 pub const FORMS: [Form; 4] = [Form::Eval, Form::Check, Form::Upgrade, Form::Probe];
-
-/// The words of `eval`.
-pub const EVAL: [Test; 5] = [
-    Test::Given,
-    Test::Tape,
-    Test::Named(Command::Eval),
-    Test::Order,
-    Test::Hex,
-];
-
-/// The words of `check`.
-pub const CHECK: [Test; 3] = [Test::Given, Test::Tape, Test::Named(Command::Check)];
-
-/// The words of `upgrade`.
-pub const UPGRADE: [Test; 3] = [Test::Given, Test::Tape, Test::Named(Command::Upgrade)];
-
-/// The words of `probe` before those that name wires.
-pub const PROBE: [Test; 4] = [
-    Test::Given,
-    Test::Tape,
-    Test::Named(Command::Probe),
-    Test::Order,
-];
 
 /// What the words of a command line ask for.
 #[derive(Clone, Copy, Debug, PartialEq, Eq)]
@@ -69,14 +45,26 @@ pub struct BadWords {
 }
 
 impl Form {
+    // What the words are tested for, one by one.
     fn tests(self) -> &'static [Test]
         ensures { result.now ≡ tests_of self }
     {
         match self {
-            Form::Eval => &EVAL,
-            Form::Check => &CHECK,
-            Form::Upgrade => &UPGRADE,
-            Form::Probe => &PROBE,
+            Form::Eval => &[
+                Test::Given,
+                Test::Tape,
+                Test::Named(Command::Eval),
+                Test::Order,
+                Test::Hex,
+            ],
+            Form::Check => &[Test::Given, Test::Tape, Test::Named(Command::Check)],
+            Form::Upgrade => &[Test::Given, Test::Tape, Test::Named(Command::Upgrade)],
+            Form::Probe => &[
+                Test::Given,
+                Test::Tape,
+                Test::Named(Command::Probe),
+                Test::Order,
+            ],
         }
     }
 
@@ -94,7 +82,7 @@ impl Form {
 /// How many words from the front pass their tests.
 fn reach(tests: &[Test], tail: Option<Test>, words: &Words) -> usize
     ensures count { result ≡ reach tests.now tail words.now }
-    ensures limit { result ≤ MAX_WORDS }
+    ensures limit { result ≤ 1000000 }
 {
     let mut passed = 0;
     while passed < words.len() {

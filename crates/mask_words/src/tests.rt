@@ -1,11 +1,11 @@
-use super::{BadWords, Job, MAX_WORDS, Words, read_words, wire_of};
+use super::{BadWords, Job, TapeName, Words, hex_bytes, keys_path, read_words, tape_name, wire_of};
 use std::alloc::{AllocError, Global};
 use std::test::Fail;
 
 fn words_of(alloc: Global, list: &[&str]) -> Result<Words, AllocError> {
     let mut words = Words::new(alloc);
     for word in list {
-        if words.len() < MAX_WORDS {
+        if words.len() < 1_000_000 {
             words.push(word)?;
         }
     }
@@ -68,5 +68,35 @@ fn last_wire(words: &Words) -> Option<u32> {
 fn reads_the_number_of_a_wire(rt: HostRuntime) -> Result<(), Fail> {
     let words = words_of(rt.alloc(), &["k", "t", "probe", "1", "7", "4294967295"])?;
     assert_eq!(rt; last_wire(&words), Some(4_294_967_295));
+    Ok(())
+}
+
+#[test]
+fn reads_what_the_first_two_words_name(rt: HostRuntime) -> Result<(), Fail> {
+    let seed = "seed:00112233445566778899aAbBcCdDeEfF00112233445566778899aabbccddeeff";
+    let words = words_of(rt.alloc(), &["keys", seed])?;
+    assert_eq!(rt; keys_path(&words), Some("keys"));
+    let TapeName::Seed(bytes) = tape_name(&words) else {
+        panic!(rt; "a seed");
+    };
+    assert_eq!(rt; bytes[1], 0x11);
+    assert_eq!(rt; bytes[31], 0xff);
+    let words = words_of(rt.alloc(), &["-", "tape"])?;
+    assert_eq!(rt; keys_path(&words), None);
+    assert!(rt; matches!(tape_name(&words), TapeName::Path("tape")));
+    for name in ["-", "seed:00"] {
+        let words = words_of(rt.alloc(), &["", name])?;
+        assert_eq!(rt; keys_path(&words), None);
+        assert!(rt; matches!(tape_name(&words), TapeName::NoTape));
+    }
+    Ok(())
+}
+
+#[test]
+fn reads_hexadecimal(rt: HostRuntime) -> Result<(), Fail> {
+    let words = words_of(rt.alloc(), &["k", "t", "eval", "1", "0aFf"])?;
+    if words.len() == 5 && read_words(&words) == Ok(Job::Eval { order: 1 }) {
+        assert_eq!(rt; hex_bytes(rt.alloc(), words.word(4))?.as_slice(), [0x0a, 0xff].as_slice());
+    }
     Ok(())
 }

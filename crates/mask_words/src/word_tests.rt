@@ -2,11 +2,11 @@
 
 ghost use Rattle.std.specs.Prelude.{◌≡◌, ℕ, ◌<◌, List, length};
 ghost use Rattle.std.specs.Prelude.{codes, IsTrue};
-ghost use Rattle.mask_words.specs.WordTests.{passes, command_text, are_hex_digits, is_hex_text, is_tape, is_order, is_number, number_of, WiresHaveOneNumber};
+ghost use Rattle.mask_words.specs.WordTests.{passes, command_text, are_hex_digits, are_seed_digits, is_hex_text, is_tape, is_order, is_number, number_of, WiresHaveOneNumber};
 
 use itoa::Buffer;
 
-/// The name of a command.
+/// The name of a command. Several rows of the table may have the same.
 #[derive(Clone, Copy, Debug, PartialEq, Eq)]
 pub enum Command {
     /// `eval`
@@ -71,11 +71,17 @@ fn are_hex_digits(digits: &[u8]) -> bool
     digits.iter().all(|digit| digit.is_ascii_hexdigit())
 }
 
+pub(crate) fn are_seed_digits(digits: &[u8]) -> bool
+    ensures { result ≡ are_seed_digits digits.now }
+{
+    digits.len() == 64 && are_hex_digits(digits)
+}
+
 fn is_tape(word: &str) -> bool
     ensures { result ≡ is_tape word.now }
 {
     match word.as_bytes().strip_prefix(b"seed:") {
-        Some(seed) => seed.len() == 64 && are_hex_digits(seed),
+        Some(digits) => are_seed_digits(digits),
         None => !word.is_empty(),
     }
 }

@@ -26,5 +26,5 @@ pub returns-clause-secure : goal.returns-clause-secure
 returns-clause-secure g c =
     let circuit = c.circuit-circuit.ensures in
     TellsSecureCalls-evaluated c.args.prepared.now.circuit c.args.order c.args.prepared.now.inputs (g.E.Entropy.left c.args.tape.now)
-    (g.E.Entropy.left c.reserve.new.entropy) (g.W.Watch.told c.args.watch.now) (g.W.Watch.told c.run.new.watch) (returns-clause-evaluates g c) (omega arith)
-    (omega arith) circuit.circuit circuit.accepted circuit.secure
+    (g.E.Entropy.left c.reserve.new.entropy) (g.W.Watch.told c.args.watch.now) (g.W.Watch.told c.run.new.watch) (returns-clause-evaluates g c)
+    c.args.prepared.now.just_enough (omega arith) (omega arith) circuit.circuit circuit.accepted circuit.secure

@@ -1,4 +1,4 @@
-use Rattle.mask_words.proofs.OneJob.{IsJob-one}
+use Rattle.mask_words.proofs.Apart.{IsJob-one}
 use Rattle.mask_words.proofs.Places.{refused_at_one_place}
 use Rattle.mask_words.proofs.table.words_have_one_answer.Goals as goal
 

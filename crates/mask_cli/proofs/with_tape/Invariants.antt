@@ -1,5 +1,0 @@
-use Rattle.mask_cli.proofs.with_tape.Given as goal
-
--- the ledger is the one that the blank opens
-abbrev pub ghosts-counted : goal.ghosts-counted
-ghosts-counted g a = record { name = a.blank.name; parts = a.blank.parts }

@@ -1,0 +1,3 @@
+pub mod Deciding
+pub mod Reports
+pub mod Stopping

@@ -1,0 +1,13 @@
+//! What a message can be encrypted or authenticated with: the sizes of the ciphers, the tasks, and the named circuits.
+#![tactic(auto)]
+
+mod names;
+mod sizes;
+mod tasks;
+
+pub use names::{Named, circuit_named, names_are_distinct};
+pub use sizes::{KeySize, LeaSize};
+pub use tasks::{Task, key_length, message_limit};
+
+#[cfg(test)]
+mod tests;
