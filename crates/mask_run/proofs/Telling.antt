@@ -6,6 +6,7 @@ use Rattle.mask_circuit.specs.Netlist.{Netlist, IsCircuit}
 use Rattle.mask_circuit.specs.Ring.{bits}
 use Rattle.mask_circuit.specs.Expansion.{draws}
 use Rattle.mask_circuit.specs.Acceptance.{IsAccepted}
+use Rattle.mask_laws.proofs.Hiding.{accepted_is_private}
 use Rattle.mask_laws.proofs.Strengthening.{strong_is_sni}
 use Rattle.mask_check.specs.Security.{IsNIAtEachOrder}
 use Rattle.mask_bits.specs.Reading.{low}
@@ -67,6 +68,7 @@ TellsSecureCalls-evaluated c d inputs tape tape' told told' evaluates count some
       accepted = accepted;
       non_interfering = secure (suc d) (omega arith);
       strongly = strong_is_sni c (suc d) (omega arith) circuit.formed;
+      private = accepted_is_private c (suc d) (omega arith) circuit.formed accepted;
     }
 
     one : All IsSecure (eval_call c d inputs (low evaluates.fresh) ∷ [])

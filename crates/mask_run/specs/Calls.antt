@@ -9,6 +9,7 @@ use Rattle.mask_circuit.specs.Ring.{bits}
 use Rattle.mask_circuit.specs.Expansion.{draws, outs}
 use Rattle.mask_circuit.specs.Acceptance.{IsAccepted, IsStrong}
 use Rattle.mask_circuit.specs.Probing.{IsNI, IsSNI}
+use Rattle.mask_circuit.specs.Privacy.{IsPrivate, IsPrivateCall}
 use Rattle.mask_shares.specs.Sharing.{all_listed, all_shared}
 use Rattle.mask_eval.specs.Watching.{Told, told_more}
 use Rattle.mask_run.specs.Outside.{bytes_for}
@@ -35,12 +36,14 @@ eval_call c d inputs r =
       outputs = value_by_value (outs bits c (suc d) (all_listed bits shares) tape);
     }
 
--- the tape gave just the bits of the call, rounded up to bytes, and the watch was told this call alone
+-- The tape gave just the bits of the call, rounded up to bytes, and the watch was told this call alone. Over all tapes, what
+-- any d wires of the call show has the same distribution for all input bits: who reads them learns nothing of these.
 pub record Evaluates (c : Netlist) (d : ℕ) (inputs : List Bool) (tape tape' : Option (List ℕ)) (told told' : Option (List Told)) : Type 0 where
   pub fresh : List ℕ
   pub count : length fresh ≡ bytes_for (eval_bits c d)
   pub drawn : Takes tape tape' fresh
   pub tells : told' ≡ told_more told (eval_call c d inputs (low fresh) ∷ [])
+  pub private : IsPrivateCall c (suc d)
 
 -- The record is an evaluation: the circuit expanded into shares takes the told shares of the inputs, value by value, to the
 -- told shares of the outputs, with the told bits as its tape.
@@ -53,7 +56,7 @@ pub record IsEvaluation (t : Told) : Type 0 where
   pub outputs : t.outputs ≡ value_by_value (outs bits t.circuit (suc t.order) (all_listed bits shares) t.tape)
 
 -- An evaluation of an accepted circuit at an order from 1 to 7: it is non-interfering at this order, and strongly so where
--- it is strong.
+-- it is strong; and over all sharings and tapes any d of its wires show nothing of the input bits.
 pub record IsSecure (t : Told) : Type 0 where
   pub some : 1 ≤ t.order
   pub few : t.order ≤ 7
@@ -61,6 +64,7 @@ pub record IsSecure (t : Told) : Type 0 where
   pub accepted : IsAccepted t.circuit
   pub non_interfering : IsNI t.circuit (suc t.order)
   pub strongly : IsStrong t.circuit → IsSNI t.circuit (suc t.order)
+  pub private : IsPrivate t.circuit (suc t.order)
 
 -- what a watch was told in between is secure calls alone
 abbrev pub TellsSecureCalls : Option (List Told) → Option (List Told) → Type 0

@@ -90,7 +90,8 @@ pub fn mask_main<K: Source, S: Source, E: Entropy, O: Sink, W: Watch, L: Ledger>
         (Rose (O.faults out.old) (O.faults out.new) → ⊥) → (result ≡ Status.Done) ⊎ (result ≡ Status.NoMemory) }
 
     // On every command and status: each record that the watch was told is an evaluation of an accepted circuit, which is
-    // non-interfering at the order at which it was told; and strongly so where it is strong.
+    // non-interfering at the order at which it was told, strongly so where it is strong, and private: so many wires show
+    // nothing of the bits that are shared.
     ensures secure { TellsSecureCalls (W.told watch.old) (W.told watch.new) }
 
     // A fault comes only where the count of its object rose.

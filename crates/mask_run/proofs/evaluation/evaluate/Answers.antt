@@ -1,6 +1,7 @@
-use Rattle.std.proofs.Common.{List, [], ◌∷◌, ap, ap₂, ◌∙◌, arith}
+use Rattle.std.proofs.Common.{suc, List, [], ◌∷◌, ap, ap₂, ◌∙◌, arith}
 use Rattle.std.specs.declared.option.Option.{Option}
 use Rattle.mask_circuit.specs.Netlist.{Netlist}
+use Rattle.mask_laws.proofs.Hiding.{accepted_call_is_private}
 use Rattle.mask_eval.specs.Watching.{Told, told_more}
 use Rattle.mask_run.specs.Calls.{eval_bits}
 use Rattle.mask_run.proofs.LaneZero.{drawn_call}
@@ -20,6 +21,8 @@ returns-clause-evaluates g c =
       tells =
           c.run.ensures.told
           ∙ ap₂ (λ (told : Option (List Told)) (t : Told). told_more told (t ∷ [])) c.room.ensures.told call.1;
+      private = accepted_call_is_private c.args.prepared.now.circuit (suc c.args.order) (omega arith) c.circuit-circuit.ensures.circuit.formed
+          c.circuit-circuit.ensures.accepted;
     }
 
 pub returns-clause-secure : goal.returns-clause-secure
