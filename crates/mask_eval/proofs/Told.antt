@@ -11,7 +11,7 @@ use Rattle.mask_circuit.specs.Ring.{Ring}
 use Rattle.mask_circuit.specs.declared.gates.Wire.{Wire}
 use Rattle.mask_circuit.specs.declared.gates.Wire.TheVariants.{Share}
 use Rattle.mask_circuit.specs.Wires.{Shares, each, joined, pairs, fresh_of, gate_names, gate_draws, gate_wire, gate_wires, gate_out}
-use Rattle.mask_circuit.specs.Expansion.{Carried, CircuitWire, shares_of, put, start, run, expand, names, names_from, names_of, wires, wire_count, wires_before}
+use Rattle.mask_circuit.specs.Expansion.{Carried, CircuitWire, shares_of, put, start, run, expand, names_from, wires, wire_count, wires_before}
 use Rattle.mask_circuit.proofs.Numbering.{wire_count-before, length-names_of}
 use Rattle.mask_circuit.proofs.Places.{length-each, length-joined}
 use Rattle.mask_laws.proofs.Carrying.{put-same, run-earlier}

@@ -1,7 +1,6 @@
-use Rattle.std.proofs.Common.{◌≡◌, ℕ, ◌+◌, ◌*◌, List, [], ◌∷◌, ◌++◌, length, take, All, append_assoc, ap, ap₂, sym, subst, ◌∙◌, arith}
-use Rattle.std.specs.List.{concat}
+use Rattle.std.proofs.Common.{◌≡◌, ℕ, List, [], length, take, All, ap, sym, subst, ◌∙◌, arith}
 use Rattle.std.proofs.lemmas.List.Elements.{All-push}
-use Rattle.std.proofs.lemmas.List.{append-nil, take_more, get_or_read}
+use Rattle.std.proofs.lemmas.List.{take_more, get_or_read}
 use Rattle.mask_eval.proofs.Lists.{concat_more}
 use Rattle.mask_eval.proofs.words.write_values.Goals as goal
 
