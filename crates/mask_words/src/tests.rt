@@ -96,7 +96,10 @@ fn reads_what_the_first_two_words_name(rt: HostRuntime) -> Result<(), Fail> {
 fn reads_hexadecimal(rt: HostRuntime) -> Result<(), Fail> {
     let words = words_of(rt.alloc(), &["k", "t", "eval", "1", "0aFf"])?;
     if words.len() == 5 && read_words(&words) == Ok(Job::Eval { order: 1 }) {
-        assert_eq!(rt; hex_bytes(rt.alloc(), words.word(4))?.as_slice(), [0x0a, 0xff].as_slice());
+        assert_eq!(rt;
+            hex_bytes(rt.alloc(), words.word(4))?.as_slice(),
+            [0x0a, 0xff].as_slice()
+        );
     }
     Ok(())
 }
