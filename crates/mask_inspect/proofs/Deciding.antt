@@ -1,5 +1,5 @@
 -- Each check fails with one status, and not where it passes; so the first check that fails decides one status.
-use Rattle.std.proofs.Common.{◌≡◌, ◌⊎◌, ℕ, suc, ◌+◌, ◌<◌, ◌≤◌, List, [], ◌∷◌, length, take, slice_index, None, Some, refl, sym, ◌∙◌, ap, subst, inl, inr, unwrap_or, arith}
+use Rattle.std.proofs.Common.{◌≡◌, ℕ, suc, ◌+◌, ◌<◌, ◌≤◌, List, [], ◌∷◌, length, take, slice_index, None, Some, sym, ◌∙◌, ap, subst, inl, inr, unwrap_or, arith}
 use Rattle.std.proofs.lemmas.Bool.{cases_order}
 use Rattle.std.proofs.lemmas.List.{length-take-le, get_or-take}
 use Rattle.std.specs.declared.option.Option.{Option}

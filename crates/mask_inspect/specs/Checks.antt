@@ -1,5 +1,5 @@
 -- What is tested of a circuit text that was read, in order. The first check that fails decides the status.
-use Rattle.std.specs.Prelude.{◌≡◌, ◌⊎◌, ℕ, suc, ◌+◌, ◌/◌, ◌<◌, ◌≤◌, Bool, false, List, [], ◌∷◌, length, take, slice_index, Some}
+use Rattle.std.specs.Prelude.{◌≡◌, ◌⊎◌, ℕ, suc, ◌+◌, ◌/◌, ◌<◌, ◌≤◌, false, List, [], ◌∷◌, length, take, slice_index, Some}
 use Rattle.std.specs.List.{AllWithin}
 use Rattle.mask_bits.specs.Reading.{low}
 use Rattle.mask_circuit.specs.Netlist.{Netlist}

@@ -1,5 +1,5 @@
 -- How a run that reads a circuit text ends, by the bytes that it took from the input.
-use Rattle.std.specs.Prelude.{◌≡◌, ◌⊎◌, ℕ, ◌+◌, ◌^◌, ◌<◌, ◌≤◌, List, [], ◌∷◌, length}
+use Rattle.std.specs.Prelude.{◌≡◌, ◌⊎◌, ℕ, ◌+◌, ◌^◌, ◌<◌, ◌≤◌, List, length}
 use Rattle.std.specs.declared.option.Option.{Option}
 use Rattle.std.specs.Io.KnownBytes.{Appends, Consumes, IsAtEnd}
 use Rattle.mask_io.specs.Outside.{AppendsProperPrefix}
@@ -10,7 +10,7 @@ use Rattle.mask_text.specs.declared.errors.TextError.{TextError}
 use Rattle.mask_text.specs.declared.errors.TextError.TheVariants as errors
 use Rattle.mask_status.specs.declared.status.Status.{Status}
 use Rattle.mask_status.specs.declared.status.Status.TheVariants.{Done, Refused, BadText, TooLong, ReadFault, TapeFault, WriteFault, NoMemory}
-use Rattle.mask_inspect.specs.Checks.{Check, StandsFor, FirstFailure, AllPass}
+use Rattle.mask_inspect.specs.Checks.{Check, FirstFailure, AllPass}
 
 -- These bytes were taken from the input, and they are as said. Of an input that tells its bytes they are the first ones.
 abbrev pub Takes : Option (List ℕ) → Option (List ℕ) → (List ℕ → Type 0) → Type 0

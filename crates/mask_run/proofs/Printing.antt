@@ -1,17 +1,17 @@
 -- From what preparing, evaluating and writing come to, to what `eval` did.
-use Rattle.std.proofs.Common.{◌≡◌, ◌⊎◌, ℕ, zero, suc, ◌+◌, ◌≤◌, Bool, List, [], ◌∷◌, length, refl, subst, inl, inr, arith}
+use Rattle.std.proofs.Common.{◌≡◌, ℕ, zero, suc, ◌+◌, ◌≤◌, Bool, List, [], ◌∷◌, length, refl, subst, inl, inr, arith}
 use Rattle.std.specs.declared.option.Option.{Option}
 use Rattle.mask_circuit.specs.Netlist.{Netlist}
 use Rattle.mask_circuit.specs.Value.{plain}
 use Rattle.mask_check.specs.Costs.{most_steps}
 use Rattle.mask_words.specs.WordTests.{Word}
 use Rattle.mask_status.specs.declared.status.Status.{Status}
-use Rattle.mask_status.specs.declared.status.Status.TheVariants.{Done, TapeFault, WriteFault}
+use Rattle.mask_status.specs.declared.status.Status.TheVariants.{TapeFault}
 use Rattle.mask_inspect.specs.Checks.{Grammar, Inputs, Acceptance, AllPass}
 use Rattle.mask_inspect.specs.Ends.{IsRead, CostsAtMost, Writes}
 use Rattle.mask_run.specs.Hexadecimal.{IsReport}
 use Rattle.mask_run.specs.Outside.{Outside}
-use Rattle.mask_run.specs.Calls.{eval_bits, Evaluates}
+use Rattle.mask_run.specs.Calls.{Evaluates}
 use Rattle.mask_run.specs.Evaluating.{IsReady, Prints, Evaluated, Prepares}
 use Rattle.mask_run.specs.Promises.{AsksOnlyFor}
 

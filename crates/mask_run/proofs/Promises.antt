@@ -1,6 +1,6 @@
 -- What the command promises of a text that the input tells, and when each answer comes: for all jobs at once, from how a
 -- run ends on the bytes that it took.
-use Rattle.std.proofs.Common.{◌≡◌, ◌⊎◌, ℕ, zero, suc, ◌+◌, ◌^◌, ◌<◌, ◌≤◌, List, [], ◌∷◌, ◌++◌, length, None, Some, refl, sym, ap, ◌∙◌, subst, inl, inr, arith}
+use Rattle.std.proofs.Common.{◌≡◌, ◌⊎◌, ℕ, ◌+◌, ◌≤◌, List, [], ◌∷◌, length, None, Some, refl, sym, ap, ◌∙◌, subst, inl, inr, arith}
 use Rattle.std.proofs.lemmas.List.{append-nil, length-append}
 use Rattle.std.specs.declared.option.Option.{Option}
 use Rattle.std.specs.Io.KnownBytes.{Consumes, IsAtEnd}
@@ -11,8 +11,7 @@ use Rattle.mask_words.specs.declared.table.Job.{Job}
 use Rattle.mask_words.specs.declared.table.Job.TheVariants as jobs
 use Rattle.mask_status.specs.declared.status.Status.{Status}
 use Rattle.mask_status.specs.declared.status.Status.TheVariants.{Done, ReadFault, TapeFault, WriteFault, NoMemory}
-use Rattle.mask_inspect.specs.Checks.{FirstFailure, AllPass}
-use Rattle.mask_inspect.specs.Ends.{Ends, Long, Fails, Does, Breaks, Writes}
+use Rattle.mask_inspect.specs.Ends.{Long, Fails, Does, Breaks, Writes}
 use Rattle.mask_inspect.specs.Laws.{FirstFailureIsOne, NoneFailsWhereAllPass, TextIsOne}
 use Rattle.mask_run.specs.Outside.{Outside, LeavesNothing}
 use Rattle.mask_run.specs.Evaluating.{Evaluated}

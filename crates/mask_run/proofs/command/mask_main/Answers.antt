@@ -1,4 +1,4 @@
-use Rattle.std.proofs.Common.{◌≡◌, ap, subst, sym, refl}
+use Rattle.std.proofs.Common.{ap, subst, sym, refl}
 use Rattle.mask_words.specs.declared.table.Job.{Job}
 use Rattle.mask_status.specs.declared.status.Status.TheVariants.{BadWords}
 use Rattle.mask_run.specs.Outside.{LeavesTape, LeavesWatch, TellsNothing}
