@@ -3,8 +3,6 @@ use Rattle.std.proofs.Common.{◌≡◌, ℕ, ◌+◌, ◌<◌, ◌≤◌, Bool,
 use Rattle.std.specs.Prelude.{IsSome}
 use Rattle.std.proofs.lemmas.Bool.{and_parts, not-true, false≢true}
 use Rattle.mask_circuit.specs.declared.gates.Gate.{Gate}
-use Rattle.mask_circuit.specs.declared.limits.TheConstants.{MAX_VALUES, MAX_OUTPUTS}
-use Rattle.mask_circuit.specs.declared.labelled.TheConstants.{MAX_GROUPS}
 use Rattle.mask_circuit.specs.Netlist.{value_count, only_inputs}
 use Rattle.mask_circuit.specs.Labels.{LabelledNetlist, sizes}
 use Rattle.mask_circuit.specs.Text.{Line, First, Second, Inputs, Input, Makes, Output, Out}
@@ -124,7 +122,7 @@ module _ (old : Reader) (said : Said) (reading : IsReading old)
         },
       )
 
-  pub few_inputs : (n : ℕ) → said ≡ say.Inputs n → n ≤ MAX_VALUES
+  pub few_inputs : (n : ℕ) → said ≡ say.Inputs n → n ≤ 1_000_000
   unfolding is_within
   few_inputs n e = let r = right_line (Inputs n) (ap line_of e) in leb-true _ _ r.within
 
@@ -137,7 +135,7 @@ module _ (old : Reader) (said : Said) (reading : IsReading old)
   pub record BeforeGates (n : ℕ) : Type 0 where
     pub gates : old.builder.gates ≡ []
     pub outputs : old.builder.outputs ≡ []
-    pub few : old.builder.inputs + n ≤ MAX_VALUES
+    pub few : old.builder.inputs + n ≤ 1_000_000
 
   pub before_gates : (name : _) (n : ℕ) → said ≡ say.Input name n → BeforeGates n
   unfolding is_within
@@ -145,7 +143,7 @@ module _ (old : Reader) (said : Said) (reading : IsReading old)
       let g = goes_input old.section (labelled_of old) name.now n (follows_line _ (ap line_of e)) in
       let parts = and_parts (has_no_gates (labelled_of old)) (has_no_groups_out (labelled_of old)) g.1 in
       let r = right_line (Input name.now n) (ap line_of e) in
-      let within = and_parts (ltb (length old.inputs.items) MAX_GROUPS) (leb (old.builder.inputs + n) MAX_VALUES) r.within in
+      let within = and_parts (ltb (length old.inputs.items) 1_000) (leb (old.builder.inputs + n) 1_000_000) r.within in
       let filled : length old.builder.outputs ≤ old.promised = subst (λ (p : Section). IsFilled p (length old.builder.outputs) old.promised)
       g.0 reading.filled in
       let none : sizes old.outputs.items ≡ 0 = ap sizes (empty_list old.outputs.items (eqb-true _ _ parts.1)) in
@@ -182,12 +180,12 @@ module _ (old : Reader) (said : Said) (reading : IsReading old)
         },
       )
 
-  pub few_outputs : (name : _) (n : ℕ) → said ≡ say.Output name n → old.promised + n ≤ MAX_OUTPUTS
+  pub few_outputs : (name : _) (n : ℕ) → said ≡ say.Output name n → old.promised + n ≤ 1_000_000
   unfolding is_within
   few_outputs name n e =
       let r = right_line (Output name.now n) (ap line_of e) in
-      let within = and_parts (ltb (length old.outputs.items) MAX_GROUPS) (leb (sizes old.outputs.items + n) MAX_OUTPUTS) r.within in
-      let few = leb-true (sizes old.outputs.items + n) MAX_OUTPUTS within.1 in
+      let within = and_parts (ltb (length old.outputs.items) 1_000) (leb (sizes old.outputs.items + n) 1_000_000) r.within in
+      let few = leb-true (sizes old.outputs.items + n) 1_000_000 within.1 in
       let promised = reading.promised in
       omega arith
 

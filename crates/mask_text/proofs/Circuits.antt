@@ -4,7 +4,6 @@ use Rattle.std.proofs.lemmas.Bool.{and_parts}
 use Rattle.std.proofs.lemmas.List.Elements.{All-nil, All-push}
 use Rattle.mask_circuit.specs.declared.gates.Gate.{Gate}
 use Rattle.mask_circuit.specs.declared.gates.Gate.TheVariants.{Zero, One, Xor, Not, And, Ref}
-use Rattle.mask_circuit.specs.declared.limits.TheConstants.{MAX_VALUES, MAX_OUTPUTS}
 use Rattle.mask_circuit.specs.Netlist.{Netlist, IsCircuit, OperandsBelow, value_count, only_inputs, with_output}
 use Rattle.mask_text.specs.Faults.{are_below}
 
@@ -18,14 +17,14 @@ operands_below n (Not u) e = ltb-true _ _ e
 operands_below n (And u v) e = let p = and_parts _ _ e in (ltb-true _ _ p.0, ltb-true _ _ p.1)
 operands_below n (Ref u) e = ltb-true _ _ e
 
-pub circuit-inputs : (n : ℕ) → n ≤ MAX_VALUES → IsCircuit (only_inputs n)
+pub circuit-inputs : (n : ℕ) → n ≤ 1_000_000 → IsCircuit (only_inputs n)
 circuit-inputs n few = record {
   formed = record { gates = tt; outputs = All-nil (λ u. u < n + 0) };
   few_values = omega arith;
   few_outputs = omega arith;
 }
 
-pub circuit-out : (c : Netlist) (u : ℕ) → IsCircuit c → u < value_count c → length c.outputs < MAX_OUTPUTS → IsCircuit (with_output c u)
+pub circuit-out : (c : Netlist) (u : ℕ) → IsCircuit c → u < value_count c → length c.outputs < 1_000_000 → IsCircuit (with_output c u)
 circuit-out c u is below room = record {
   formed = record { gates = is.formed.gates; outputs = All-push (λ u. u < value_count c) c.outputs u is.formed.outputs below };
   few_values = is.few_values;

@@ -5,7 +5,6 @@ use Rattle.std.proofs.lemmas.Bool.{and_from, lt-leb, not_from_false}
 use Rattle.std.proofs.lemmas.List.Elements.{All-head, All-tail, All-take, All-drop}
 use Rattle.mask_circuit.specs.declared.gates.Gate.{Gate}
 use Rattle.mask_circuit.specs.declared.gates.Gate.TheVariants.{Zero, One, Xor, Not, And, Ref}
-use Rattle.mask_circuit.specs.declared.limits.TheConstants.{MAX_VALUES, MAX_OUTPUTS}
 use Rattle.mask_circuit.specs.Netlist.{Netlist, IsCircuit, AreGates, OperandsBelow, value_count, only_inputs}
 use Rattle.mask_circuit.specs.Labels.{NamedGroup, LabelledNetlist, IsLabelled, AreGroups, is_taken, sizes, with_plain_groups}
 use Rattle.mask_circuit.specs.Text.{Line, First, Second, Inputs, Input, Makes, Output, Out, End, line_words, first_front, second_front, first_lines, second_lines, output_lines}
@@ -71,14 +70,14 @@ with_inputs : ℕ → List NamedGroup → LabelledNetlist
 with_inputs n ins = record { circuit = only_inputs n; inputs = ins; outputs = [] }
 
 inputs-step : (g : NamedGroup) (ins : List NamedGroup) (n : ℕ) (after : List Line) → is_taken g.name ins ≡ false → length ins < 1000
-    → n + g.size ≤ MAX_VALUES
+    → n + g.size ≤ 1_000_000
     → lead (at Named (with_inputs n ins)) (Input g.name g.size ∷ after) ≡ lead (at Named (with_inputs (n + g.size) (ins ++ g ∷ []))) after
 unfolding goes_on has_taken_name is_known is_within with_inputs
 inputs-step g ins n after fresh room few =
     lead-step (at Named (with_inputs n ins)) (Input g.name g.size) (at Named (with_inputs (n + g.size) (ins ++ g ∷ []))) after refl
     (right_none (with_inputs n ins) (Input g.name g.size) fresh refl (and_from _ _ (lt-ltb _ _ room) (le-leb _ _ few)))
 
-inputs-go : (gs ins : List NamedGroup) (n : ℕ) (after : List Line) → AreGroups ins gs → length ins + length gs ≤ 1000 → n + sizes gs ≤ MAX_VALUES
+inputs-go : (gs ins : List NamedGroup) (n : ℕ) (after : List Line) → AreGroups ins gs → length ins + length gs ≤ 1000 → n + sizes gs ≤ 1_000_000
     → lead (at Named (with_inputs n ins)) (map (λ g. Input g.name g.size) gs ++ after)
     ≡ lead (at Named (with_inputs (n + sizes gs) (ins ++ gs))) after
 inputs-go [] ins n after are room few =
@@ -97,7 +96,7 @@ module _ (p : Section) (n : ℕ) (ins : List NamedGroup) where
   with_gates gs = record { circuit = record { inputs = n; gates = gs; outputs = [] }; inputs = ins; outputs = [] }
 
   gates-step : (h : Gate) (gs : List Gate) (after : List Line) → goes_on p (with_gates gs) (Makes h) ≡ Some (at p (with_gates (gs ++ h ∷ [])))
-      → OperandsBelow (n + length gs) h → n + length gs < MAX_VALUES
+      → OperandsBelow (n + length gs) h → n + length gs < 1_000_000
       → lead (at p (with_gates gs)) (Makes h ∷ after) ≡ lead (at p (with_gates (gs ++ h ∷ []))) after
   unfolding has_taken_name is_known is_within with_gates
   gates-step h gs after goes below room =
@@ -105,7 +104,7 @@ module _ (p : Section) (n : ℕ) (ins : List NamedGroup) where
       (right_none (with_gates gs) (Makes h) refl (below_known _ h below) (lt-ltb _ _ room))
 
   gates-go : ((gs : List Gate) (h : Gate) → goes_on p (with_gates gs) (Makes h) ≡ Some (at p (with_gates (gs ++ h ∷ []))))
-      → (hs gs : List Gate) (after : List Line) → AreGates (n + length gs) hs → n + length gs + length hs ≤ MAX_VALUES
+      → (hs gs : List Gate) (after : List Line) → AreGates (n + length gs) hs → n + length gs + length hs ≤ 1_000_000
       → lead (at p (with_gates gs)) (map Makes hs ++ after) ≡ lead (at p (with_gates (gs ++ hs))) after
   gates-go goes [] gs after are few = ap (λ xs. lead (at p (with_gates xs)) after) (sym (append-nil gs))
   gates-go goes (h ∷ hs) gs after are few =
@@ -120,7 +119,7 @@ module _ (p : Section) (n : ℕ) (gates : List Gate) (ins outs : List NamedGroup
   with_outs : List ℕ → LabelledNetlist
   with_outs us = record { circuit = record { inputs = n; gates = gates; outputs = us }; inputs = ins; outputs = outs }
 
-  outs-go : (most : ℕ) → most ≤ MAX_OUTPUTS
+  outs-go : (most : ℕ) → most ≤ 1_000_000
       → ((us : List ℕ) (u : ℕ) → length us < most → goes_on p (with_outs us) (Out u) ≡ Some (at p (with_outs (us ++ u ∷ []))))
       → (vs us : List ℕ) (after : List Line) → All (λ u. u < n + length gates) vs → length us + length vs ≤ most
       → lead (at p (with_outs us)) (map Out vs ++ after) ≡ lead (at p (with_outs (us ++ vs))) after
@@ -139,7 +138,7 @@ module _ (n : ℕ) (gates : List Gate) (ins : List NamedGroup) where
   with_groups outs us = record { circuit = record { inputs = n; gates = gates; outputs = us }; inputs = ins; outputs = outs }
 
   group-step : (g : NamedGroup) (before : List NamedGroup) (us : List ℕ) (after : List Line) → is_taken g.name before ≡ false → length before < 1000
-      → sizes before + g.size ≤ MAX_OUTPUTS → sizes before ≤ length us
+      → sizes before + g.size ≤ 1_000_000 → sizes before ≤ length us
       → lead (at Named (with_groups before us)) (Output g.name g.size ∷ after) ≡ lead (at Named (with_groups (before ++ g ∷ []) us)) after
   unfolding goes_on has_taken_name is_known is_within with_groups
   group-step g before us after fresh room few full =
@@ -147,7 +146,7 @@ module _ (n : ℕ) (gates : List Gate) (ins : List NamedGroup) where
       (if_so-true _ Named _ (le-leb _ _ full))
       (right_none (with_groups before us) (Output g.name g.size) fresh refl (and_from _ _ (lt-ltb _ _ room) (le-leb _ _ few)))
 
-  group-outs : (outs : List NamedGroup) (vs us : List ℕ) (after : List Line) → sizes outs ≤ MAX_OUTPUTS → All (λ u. u < n + length gates) vs
+  group-outs : (outs : List NamedGroup) (vs us : List ℕ) (after : List Line) → sizes outs ≤ 1_000_000 → All (λ u. u < n + length gates) vs
       → length us + length vs ≤ sizes outs → lead (at Named (with_groups outs us)) (map Out vs ++ after)
       ≡ lead (at Named (with_groups outs (us ++ vs))) after
   unfolding goes_on with_groups with_outs
@@ -156,7 +155,7 @@ module _ (n : ℕ) (gates : List Gate) (ins : List NamedGroup) where
       us after known few
 
   groups-go : (gs before : List NamedGroup) (us vs : List ℕ) (after : List Line) → AreGroups before gs → length before + length gs ≤ 1000
-      → sizes before ≡ length us → sizes gs ≡ length vs → length us + length vs ≤ MAX_OUTPUTS → All (λ u. u < n + length gates) vs
+      → sizes before ≡ length us → sizes gs ≡ length vs → length us + length vs ≤ 1_000_000 → All (λ u. u < n + length gates) vs
       → lead (at Named (with_groups before us)) (output_lines gs vs ++ after) ≡ lead (at Named (with_groups (before ++ gs) (us ++ vs))) after
   groups-go [] before us [] after are room full sized few known =
       ap₂ (λ xs ys. lead (at Named (with_groups xs ys)) after) (sym (append-nil before)) (sym (append-nil us))
@@ -183,7 +182,7 @@ begin_second : (after : List Line) → lead at_start (Second ∷ after) ≡ lead
 unfolding goes_on has_taken_name is_known is_within with_inputs
 begin_second after = lead-step at_start Second (at Named (with_inputs 0 [])) after refl (right_none (of_inputs 0) Second refl refl refl)
 
-gates_named : (n : ℕ) (ins : List NamedGroup) (gs : List Gate) (after : List Line) → AreGates n gs → n + length gs ≤ MAX_VALUES
+gates_named : (n : ℕ) (ins : List NamedGroup) (gs : List Gate) (after : List Line) → AreGates n gs → n + length gs ≤ 1_000_000
     → lead (at Named (with_inputs n ins)) (map Makes gs ++ after) ≡ lead (at Named (with_groups n gs ins [] [])) after
 unfolding goes_on with_inputs with_gates with_groups
 gates_named n ins gs after are few =
@@ -222,21 +221,21 @@ lead-second l is =
     ∙ end_named l all_outputs
 
 -- all of version 1
-gates_plain : (n : ℕ) (gs : List Gate) (after : List Line) → AreGates n gs → n + length gs ≤ MAX_VALUES
+gates_plain : (n : ℕ) (gs : List Gate) (after : List Line) → AreGates n gs → n + length gs ≤ 1_000_000
     → lead (at Plain (of_inputs n)) (map Makes gs ++ after) ≡ lead (at Plain (with_groups n gs [] [] [])) after
 unfolding goes_on with_gates with_groups
 gates_plain n gs after are few =
     let none : n ≡ n + 0 = omega arith in
     gates-go Plain n [] (λ hs h. refl) gs [] after (subst (λ (m : ℕ). AreGates m gs) none are) (omega arith)
 
-outs_plain : (c : Netlist) (after : List Line) → All (λ u. u < value_count c) c.outputs → length c.outputs ≤ MAX_OUTPUTS
+outs_plain : (c : Netlist) (after : List Line) → All (λ u. u < value_count c) c.outputs → length c.outputs ≤ 1_000_000
     → lead (at Plain (with_groups c.inputs c.gates [] [] [])) (map Out c.outputs ++ after)
     ≡ lead (at Plain (with_groups c.inputs c.gates [] [] c.outputs)) after
 unfolding goes_on with_groups with_outs
-outs_plain c after known few = outs-go Plain c.inputs c.gates [] [] MAX_OUTPUTS (omega arith) (λ us u room. refl) c.outputs [] after known
+outs_plain c after known few = outs-go Plain c.inputs c.gates [] [] 1_000_000 (omega arith) (λ us u room. refl) c.outputs [] after known
     (omega arith)
 
-begin_first : (n : ℕ) (after : List Line) → n ≤ MAX_VALUES → lead at_start (First ∷ (Inputs n ∷ after)) ≡ lead (at Plain (of_inputs n)) after
+begin_first : (n : ℕ) (after : List Line) → n ≤ 1_000_000 → lead at_start (First ∷ (Inputs n ∷ after)) ≡ lead (at Plain (of_inputs n)) after
 unfolding goes_on has_taken_name is_known is_within
 begin_first n after few =
     lead-step at_start First (at Size (of_inputs 0)) (Inputs n ∷ after) refl (right_none (of_inputs 0) First refl refl refl)
@@ -265,7 +264,7 @@ small-append : (xs ys : List Line) → AllSmall xs → AllSmall ys → AllSmall 
 small-append [] ys a b = b
 small-append (x ∷ xs) ys a b = (a.0, small-append xs ys a.1 b)
 
-small-gate : (n : ℕ) (g : Gate) → OperandsBelow n g → n ≤ MAX_VALUES → IsSmallGate g
+small-gate : (n : ℕ) (g : Gate) → OperandsBelow n g → n ≤ 1_000_000 → IsSmallGate g
 small-gate n Zero h few = tt
 small-gate n One h few = tt
 small-gate n (Xor u v) h few = let a = h.0 in let b = h.1 in (omega arith, omega arith)
@@ -273,21 +272,21 @@ small-gate n (Not u) h few = omega arith
 small-gate n (And u v) h few = let a = h.0 in let b = h.1 in (omega arith, omega arith)
 small-gate n (Ref u) h few = omega arith
 
-small-gates : (n : ℕ) (gs : List Gate) → AreGates n gs → n + length gs ≤ MAX_VALUES → AllSmall (map Makes gs)
+small-gates : (n : ℕ) (gs : List Gate) → AreGates n gs → n + length gs ≤ 1_000_000 → AllSmall (map Makes gs)
 small-gates n [] are few = tt
 small-gates n (g ∷ gs) are few = (small-gate n g are.0 (omega arith), small-gates (suc n) gs are.1 (omega arith))
 
-small-outs : (n : ℕ) (us : List ℕ) → n ≤ MAX_VALUES → All (λ u. u < n) us → AllSmall (map Out us)
+small-outs : (n : ℕ) (us : List ℕ) → n ≤ 1_000_000 → All (λ u. u < n) us → AllSmall (map Out us)
 small-outs n [] few known = tt
 small-outs n (u ∷ us) few known =
     let first = All-head (λ v. v < n) u us known in
     ((let small : u < 10 ^ 9 = omega arith in small), small-outs n us few (All-tail (λ v. v < n) u us known))
 
-small-inputs : (before gs : List NamedGroup) → AreGroups before gs → sizes gs ≤ MAX_VALUES → AllSmall (map (λ g. Input g.name g.size) gs)
+small-inputs : (before gs : List NamedGroup) → AreGroups before gs → sizes gs ≤ 1_000_000 → AllSmall (map (λ g. Input g.name g.size) gs)
 small-inputs before [] are few = tt
 small-inputs before (g ∷ gs) are few = ((are.0, are.1, omega arith), small-inputs (before ++ g ∷ []) gs are.3 (omega arith))
 
-small-output_lines : (n : ℕ) (before gs : List NamedGroup) (us : List ℕ) → AreGroups before gs → sizes gs ≤ MAX_OUTPUTS → n ≤ MAX_VALUES
+small-output_lines : (n : ℕ) (before gs : List NamedGroup) (us : List ℕ) → AreGroups before gs → sizes gs ≤ 1_000_000 → n ≤ 1_000_000
     → All (λ u. u < n) us
     → AllSmall (output_lines gs us)
 small-output_lines n before [] us are few values known = tt

@@ -3,8 +3,6 @@ use Rattle.std.proofs.Common.{◌≡◌, ℕ, ◌+◌, ◌<◌, ◌≤◌, Bool,
 use Rattle.std.proofs.lemmas.Bool.{and_parts, not-true}
 use Rattle.std.proofs.lemmas.List.{map-append}
 use Rattle.mask_circuit.specs.declared.gates.Gate.{Gate}
-use Rattle.mask_circuit.specs.declared.limits.TheConstants.{MAX_VALUES, MAX_OUTPUTS}
-use Rattle.mask_circuit.specs.declared.labelled.TheConstants.{MAX_GROUPS}
 use Rattle.mask_circuit.specs.Netlist.{Netlist, IsCircuit, only_inputs}
 use Rattle.mask_circuit.specs.Labels.{LabelledNetlist, IsLabelled, AreGroups, sizes, with_plain_groups}
 use Rattle.mask_circuit.specs.Text.{Line, First, Second, Inputs, Input, Makes, Output, Out, End, line_words, first_front, second_front, first_lines, second_lines}
@@ -34,7 +32,7 @@ pub record IsDraft (l : LabelledNetlist) : Type 0 where
   few_outputs : length l.outputs ≤ 1000
   open_outputs : IsOpen l.outputs (length l.circuit.outputs)
   no_more : length l.circuit.outputs ≤ sizes l.outputs
-  within : sizes l.outputs ≤ MAX_OUTPUTS
+  within : sizes l.outputs ≤ 1_000_000
 
 -- these lines stand for the labelled circuit
 abbrev Spells : LabelledNetlist → List Line → Type 0
@@ -73,9 +71,9 @@ draft-input : (l : LabelledNetlist) (name : List ℕ) (n : ℕ) → IsDraft l �
     → l.circuit.gates ≡ [] → l.outputs ≡ [] → IsDraft (more_inputs l name n)
 unfolding has_taken_name is_within
 draft-input l name n is small right no_gates no_groups =
-    let within = and_parts (ltb (length l.inputs) MAX_GROUPS) (leb (l.circuit.inputs + n) MAX_VALUES) right.within in
-    let room = ltb-true (length l.inputs) MAX_GROUPS within.0 in
-    let few = leb-true (l.circuit.inputs + n) MAX_VALUES within.1 in
+    let within = and_parts (ltb (length l.inputs) 1_000) (leb (l.circuit.inputs + n) 1_000_000) right.within in
+    let room = ltb-true (length l.inputs) 1_000 within.0 in
+    let few = leb-true (l.circuit.inputs + n) 1_000_000 within.1 in
     let no_promise : sizes l.outputs ≡ 0 = ap sizes no_groups in
     let no_outputs : l.circuit.outputs ≡ [] = empty_list l.circuit.outputs (let h = is.no_more in omega arith) in
     let bare : IsCircuit (record l.circuit { inputs = l.circuit.inputs + n }) = rw (no_gates, no_outputs)
@@ -112,9 +110,9 @@ draft-group : (l : LabelledNetlist) (name : List ℕ) (n : ℕ) → IsDraft l �
     → is_full l ≡ true → IsDraft (more_outputs l name n)
 unfolding has_taken_name is_within
 draft-group l name n is small right full =
-    let within = and_parts (ltb (length l.outputs) MAX_GROUPS) (leb (sizes l.outputs + n) MAX_OUTPUTS) right.within in
-    let room = ltb-true (length l.outputs) MAX_GROUPS within.0 in
-    let few = leb-true (sizes l.outputs + n) MAX_OUTPUTS within.1 in
+    let within = and_parts (ltb (length l.outputs) 1_000) (leb (sizes l.outputs + n) 1_000_000) right.within in
+    let room = ltb-true (length l.outputs) 1_000 within.0 in
+    let few = leb-true (sizes l.outputs + n) 1_000_000 within.1 in
     let all = leb-true (sizes l.outputs) (length l.circuit.outputs) full in
     let h1 = sizes-push l.outputs (record { name = name; size = n }) in
     let h2 = length-push l.outputs (record { name = name; size = n }) in

@@ -1,10 +1,9 @@
 -- What an answer says of a source that tells its bytes decides which answer comes.
-use Rattle.std.proofs.Common.{◌≡◌, ℕ, ◌≤◌, List, ◌++◌, length, Option, Some, None, Result, Ok, Err, IfSome, inl, inr, refl, sym, ap, ◌∙◌, subst, append-nil, arith, length-append}
+use Rattle.std.proofs.Common.{◌≡◌, ℕ, ◌^◌, ◌≤◌, List, ◌++◌, length, Option, Some, None, Result, Ok, Err, IfSome, inl, inr, refl, sym, ap, ◌∙◌, subst, append-nil, arith, length-append}
 use Rattle.std.specs.Io.KnownBytes.{Consumes, IsAtEnd}
 use Rattle.mask_circuit.specs.Labels.{LabelledNetlist}
 use Rattle.mask_text.specs.declared.errors.TextError.{TextError}
 use Rattle.mask_text.specs.declared.errors.TextError.TheVariants.{Bad, TooLong, ReadFault, NoMemory}
-use Rattle.mask_text.specs.declared.read.TheConstants.{MAX_TEXT}
 use Rattle.mask_text.specs.Text.{IsText}
 use Rattle.mask_text.specs.Faults.{Fault, fault, fault_at, error_of}
 use Rattle.mask_text.specs.Answers.{Answers, IsAnswerTo, IsUnlessFailed, TakesAll, TakesTooMany}
@@ -34,7 +33,7 @@ module _ {A : Type 0} (view : LabelledNetlist → A) (P : A → List ℕ → Typ
       let same = gave_all bytes now took.0 took.1 took.2 in
       let shown = shows value took.0 took.4 in
       let text : IsText bytes shown.0 = subst (λ (xs : List ℕ). IsText xs shown.0) same shown.1 in
-      let few : length bytes ≤ MAX_TEXT = subst (λ (xs : List ℕ). length xs ≤ MAX_TEXT) same took.3 in
+      let few : length bytes ≤ 2 ^ 25 = subst (λ (xs : List ℕ). length xs ≤ 2 ^ 25) same took.3 in
       record {
         text = λ l other limit. inl (ap Ok (sym shown.2 ∙ ap view (text_once bytes shown.0 l text other)));
         bad = λ first e limit. absurd (fault_none bytes shown.0 first text e);
@@ -47,7 +46,7 @@ module _ {A : Type 0} (view : LabelledNetlist → A) (P : A → List ℕ → Typ
   bad_decides line reason bytes now took =
       let same = gave_all bytes now took.0 took.1 took.2 in
       let told : fault bytes ≡ Some (fault_at line reason) = subst (λ (xs : List ℕ). fault xs ≡ Some (fault_at line reason)) same took.4 in
-      let few : length bytes ≤ MAX_TEXT = subst (λ (xs : List ℕ). length xs ≤ MAX_TEXT) same took.3 in
+      let few : length bytes ≤ 2 ^ 25 = subst (λ (xs : List ℕ). length xs ≤ 2 ^ 25) same took.3 in
       record {
         text = λ l text limit. absurd (fault_none bytes l (fault_at line reason) text told);
         bad = λ first e limit. inl (fault_same first (sym told ∙ e));
@@ -58,7 +57,7 @@ module _ {A : Type 0} (view : LabelledNetlist → A) (P : A → List ℕ → Typ
           → ◌≡◌ {A = Result A TextError} (Err (Bad line reason)) (Err (Bad first.line first.reason))
       fault_same first e = let f : fault_at line reason ≡ first = cc in ap (λ (x : Fault). Err (Bad x.line x.reason)) f
 
-  long_decides : (limit : ℕ) (bytes : List ℕ) (now : Option (List ℕ)) → limit ≡ MAX_TEXT → TakesTooMany (Some bytes) now
+  long_decides : (limit : ℕ) (bytes : List ℕ) (now : Option (List ℕ)) → limit ≡ 2 ^ 25 → TakesTooMany (Some bytes) now
       → IsAnswerTo view bytes (Err (TooLong limit))
   long_decides limit bytes now is took =
       let some = gave_some bytes now took.0 took.1 in
@@ -74,7 +73,7 @@ module _ {A : Type 0} (view : LabelledNetlist → A) (P : A → List ℕ → Typ
   failed_decides error bytes any = record {
     text = λ l text few. any (Ok (view l));
     bad = λ first e few. any (Err (Bad first.line first.reason));
-    long = λ many. any (Err (TooLong MAX_TEXT));
+    long = λ many. any (Err (TooLong (2 ^ 25)));
   }
 
   pub decides : (result : Result A TextError) (before now : Option (List ℕ)) (was is : ℕ) → Answers P result before now was is
