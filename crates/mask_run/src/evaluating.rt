@@ -1,6 +1,7 @@
 //! `eval`: the output bits of a circuit that is evaluated on shares.
 
 ghost use Rattle.std.specs.Prelude.{◌≡◌, ◌+◌, ◌≤◌, [], ◌∷◌, length, IfOk, IfErr, OnOk, OnErr, IsTrue, IsErrOf};
+ghost use Rattle.mask_bits.specs.Reading.{bytes_for};
 ghost use Rattle.mask_io.specs.Outside.{Rose};
 ghost use Rattle.mask_circuit.specs.Value.{plain};
 ghost use Rattle.mask_check.specs.Costs.{most_steps};
@@ -11,7 +12,7 @@ ghost use Rattle.mask_words.specs.Jobs.{EvalWords};
 ghost use Rattle.mask_words.specs.declared.table.Job.TheVariants.{Eval};
 ghost use Rattle.mask_inspect.specs.Checks.{Grammar, Inputs, Acceptance};
 ghost use Rattle.mask_inspect.specs.Ends.{Takes, Stops, CostsAtMost, IsEarly};
-ghost use Rattle.mask_run.specs.Outside.{Outside, LeavesTape, LeavesWatch, TellsNothing, WritesNothing, bytes_for};
+ghost use Rattle.mask_run.specs.Outside.{Outside, LeavesTape, LeavesWatch, TellsNothing, WritesNothing};
 ghost use Rattle.mask_run.specs.Calls.{eval_bits, Evaluates, TellsSecureCalls};
 ghost use Rattle.mask_run.specs.Evaluating.{Prepares};
 ghost use Rattle.mask_run.specs.Hexadecimal.{IsReport};
