@@ -27,21 +27,21 @@ use Rattle.mask_eval.specs.Telling.{wires_from}
 use Rattle.mask_eval.proofs.Runs.{share-same, set-same}
 
 module _ {X : Type 0} (R : Ring X) (N : ℕ) (two : 2 ≤ N) where
-  -- the wires of a gate that acts share by share depend on the operands' shares alone ..
-  linear-same : (n : ℕ) (g : Gate) (s s' : ℕ → Shares X) (r : List X) → OperandsBelow n g → SameShares N n s s' →
+  -- the output shares of a gate depend on the operands' shares alone ..
+  pub out-same : (n : ℕ) (g : Gate) (s s' : ℕ → Shares X) (r : List X) → OperandsBelow n g → SameShares N n s s' →
       gate_out R N g s r ≡ gate_out R N g s' r
-  linear-same n g s s' r below same =
+  out-same n g s s' r below same =
       map-each (gate_wire R N g s r) Share N
       ∙ each-same _ _ N (λ i lt. share-same R N n g s s' r below same i lt)
       ∙ sym (map-each (gate_wire R N g s' r) Share N)
 
-  -- .. and so do those of each gate
-  gate-same : (n : ℕ) (g : Gate) (s s' : ℕ → Shares X) (r : List X) → OperandsBelow n g → SameShares N n s s' →
+  -- .. and so do its wires
+  pub gate-same : (n : ℕ) (g : Gate) (s s' : ℕ → Shares X) (r : List X) → OperandsBelow n g → SameShares N n s s' →
       gate_wires R N g s r ≡ gate_wires R N g s' r
   gate-same n Zero s s' r below same = refl
   gate-same n One s s' r below same = refl
-  gate-same n (Xor u v) s s' r below same = linear-same n (Xor u v) s s' r below same
-  gate-same n (Not u) s s' r below same = linear-same n (Not u) s s' r below same
+  gate-same n (Xor u v) s s' r below same = out-same n (Xor u v) s s' r below same
+  gate-same n (Not u) s s' r below same = out-same n (Not u) s s' r below same
   gate-same n (And u v) s s' r below same =
       product_wires-agree R N (fresh_of R (pairs N) r) (s u) (s' u) (s v) (s' v) (λ i lt. same u i below.0 lt) (λ i lt. same v i below.1 lt) two
   gate-same n (Ref u) s s' r below same = refresh_wires-agree R N (fresh_of R (pairs N) r) (s u) (s' u) (λ i lt. same u i below lt) two

@@ -28,8 +28,8 @@ coins_left first now here rest now_rest all enough same forward spent next = let
 room_left : (first now here rest now_rest all : ℕ) → all ≤ first → first + now_rest ≤ now + all → now_rest ≡ here + rest → here ≤ now
 room_left first now here rest now_rest all enough told next = omega arith
 
-pub gate_on-shares-requires : goal.gate_on-shares-requires
-gate_on-shares-requires g c =
+pub gate_on-requires : goal.gate_on-requires
+gate_on-requires g c =
     let N = g.row.N in
     let gate : Gate = get_or c.args.gates.now c.loop-k.k Zero in
     let more = drop_more c.args.gates.now c.loop-k.k Zero c.loop-k-test.true in
@@ -61,9 +61,9 @@ loop-k-preserved g c =
     let gate : Gate = get_or c.args.gates.now c.loop-k.k Zero in
     let rest : List Gate = drop (c.loop-k.k + 1) c.args.gates.now in
     let values : List (List ℕ) = map (map g.W.Wiring.carried) c.loop-k.values in
-    let out : List ℕ = map g.W.Wiring.carried c.gate_on-shares.result in
+    let out : List ℕ = map g.W.Wiring.carried c.gate_on.result in
     let coins = g.W.Wiring.drawn c.loop-k.coins in
-    let after = g.W.Wiring.drawn c.gate_on-shares.new.coins in
+    let after = g.W.Wiring.drawn c.gate_on.new.coins in
     let first = g.W.Wiring.drawn c.args.coins.now in
     let all : Carried ℕ = run words N c.args.gates.now c.args.inputs (start words (all_listed words (map (map g.W.Wiring.carried) c.args.values.now))) (drop first.used first.words) in
     let more = drop_more c.args.gates.now c.loop-k.k Zero c.loop-k-test.true in
@@ -73,32 +73,32 @@ loop-k-preserved g c =
     let total : length c.args.values.now ≡ n + length (gate ∷ rest) = omega (arith, length-drop (c.loop-k.k + 1) c.args.gates.now) in
     let left = sum_by-drop_more (gate_draws N) c.args.gates.now c.loop-k.k Zero c.loop-k-test.true in
     let names = sum_by-drop_more (λ g'. length (gate_names g.row.N g')) c.args.gates.now c.loop-k.k Zero c.loop-k-test.true in
-    let put : map (map g.W.Wiring.carried) (set c.loop-k.values n c.gate_on-shares.result) ≡ set values n out =
-    map-set (map g.W.Wiring.carried) c.loop-k.values n c.gate_on-shares.result in
+    let put : map (map g.W.Wiring.carried) (set c.loop-k.values n c.gate_on.result) ≡ set values n out =
+    map-set (map g.W.Wiring.carried) c.loop-k.values n c.gate_on.result in
     let drawn : drop after.used after.words ≡ drop (gate_draws N gate) (drop coins.used coins.words) =
-    ap₂ (λ (m : ℕ) (ws : List ℕ). drop m ws) c.gate_on-shares.ensures.spent c.gate_on-shares.ensures.same ∙ sym (drop-drop (gate_draws N gate) coins.used coins.words) in
+    ap₂ (λ (m : ℕ) (ws : List ℕ). drop m ws) c.gate_on.ensures.spent c.gate_on.ensures.same ∙ sym (drop-drop (gate_draws N gate) coins.used coins.words) in
     record {
       shares = λ u i lu li.
           ap₂ (λ (m : ℕ) (vs : List (List ℕ)). run words N rest m (start words (all_listed words vs)) (drop after.used after.words) u (Share i)) next put
           ∙ next_value words N (length c.args.values.now) n gate rest values out (drop coins.used coins.words) (drop after.used after.words) (shares_of all)
-          are room c.gate_on-shares.ensures.shares drawn total
+          are room c.gate_on.ensures.shares drawn total
           (subst (λ (gs : List Gate). SameShares N (length c.args.values.now)
           (shares_of (run words N gs n (start words (all_listed words values)) (drop coins.used coins.words))) (shares_of all)) more c.loop-k.invariant.shares)
           u i lu li;
       told =
-          ap₂ (λ (m : ℕ) (vs : List (List ℕ)). told_more (W.told c.gate_on-shares.new.wires)
+          ap₂ (λ (m : ℕ) (vs : List (List ℕ)). told_more (W.told c.gate_on.new.wires)
           (wires_from words N rest m (start words (all_listed words vs)) (drop after.used after.words))) next put
           ∙ next_told words N c.requires.some n gate rest values out (drop coins.used coins.words) (drop after.used after.words)
-          (W.told c.loop-k.wires) (W.told c.gate_on-shares.new.wires) _
-          are room c.gate_on-shares.ensures.shares c.gate_on-shares.ensures.told drawn
+          (W.told c.loop-k.wires) (W.told c.gate_on.new.wires) _
+          are room c.gate_on.ensures.shares c.gate_on.ensures.told drawn
           (ap (λ (gs : List Gate). told_more (W.told c.loop-k.wires) (wires_from words N gs n (start words (all_listed words values)) (drop coins.used coins.words))) (sym more)
           ∙ c.loop-k.invariant.told);
       gates = subst (λ (m : ℕ). AreGates m rest) (sym next) are.1;
-      inputs = take-set-le c.args.inputs c.loop-k.values n c.gate_on-shares.result (omega arith) ∙ c.loop-k.invariant.inputs;
+      inputs = take-set-le c.args.inputs c.loop-k.values n c.gate_on.result (omega arith) ∙ c.loop-k.invariant.inputs;
       room = omega arith;
       forward = omega arith;
       spent = omega arith;
-      same = c.gate_on-shares.ensures.same ∙ c.loop-k.invariant.same;
+      same = c.gate_on.ensures.same ∙ c.loop-k.invariant.same;
       steps = omega arith;
     }
 
