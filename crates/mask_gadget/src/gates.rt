@@ -18,6 +18,7 @@ use mask_circuit::Gate;
 ///
 /// What the machine is told are the wires of the gate, in the order of their numbers. A product and a refresh draw a coin
 /// for each pair of shares.
+#[inline(always)]
 pub fn gate_on<const N: usize, W: Wiring>(
     gate: Gate,
     values: &[[W::Word; N]],
