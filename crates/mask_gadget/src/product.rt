@@ -109,7 +109,7 @@ fn mix<const N: usize, W: Wiring>(
     }
 }
 
-// Does so for the pairs of share `i` with each later share.
+// Does so for the pairs of share `i` with each later share. The bounds are the same for each share, so that the loop is unrolled.
 fn mix_row<const N: usize, W: Wiring>(
     terms: &mut [[W::Word; N]; N],
     i: usize,

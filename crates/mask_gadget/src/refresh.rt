@@ -39,7 +39,7 @@ pub(crate) fn refresh<const N: usize, W: Wiring>(
     }
 }
 
-// Copies the shares, the last one first.
+// Copies the shares, the last one first: copied as a block, words that were just written would be waited for.
 fn copy_shares<const N: usize, W: Wiring>(x: &[W::Word; N], out: &mut [W::Word; N])
     requires few { N ≤ 8 }
     ensures { out.new ≡ x.now }
@@ -49,7 +49,7 @@ fn copy_shares<const N: usize, W: Wiring>(x: &[W::Word; N], out: &mut [W::Word; 
     }
 }
 
-// Adds a coin to each pair of share `i` with a later share.
+// Adds a coin to each pair of share `i` with a later share. The bounds are the same for each share, so that the loop is unrolled.
 fn add_to_row<const N: usize, W: Wiring>(
     parts: &mut [W::Word; N],
     i: usize,
