@@ -1,9 +1,9 @@
 use Rattle.std.proofs.Common.{ℕ, ◌<◌, length, map, get_or, bit_and, arith, ◌∙◌, ap}
 use Rattle.mask_gadget.proofs.Telling.{none_made, one_made, all_made, word_read}
-use Rattle.mask_gadget.proofs.product.row_of_products.Goals as goal
+use Rattle.mask_gadget.proofs.product.multiply_row.Goals as goal
 
 pub loop-j-init : goal.loop-j-init
-loop-j-init g c = record { row = none_made g.W.Wiring.carried g.row.N _ c.args.y.now (g.W.Wiring.told c.args.wires.now) c.told-y; room = omega arith }
+loop-j-init g c = record { row = none_made g.W.Wiring.carried g.row.N _ c.args.row.now (g.W.Wiring.told c.args.wires.now) c.told-row; room = omega arith }
 
 pub loop-j-preserved : goal.loop-j-preserved
 loop-j-preserved g c =

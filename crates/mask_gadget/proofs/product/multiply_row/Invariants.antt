@@ -1,6 +1,6 @@
 use Rattle.std.proofs.Common.{◌+◌, ◌≤◌, map, get_or, bit_and}
 use Rattle.mask_gadget.proofs.Telling.{MadeTo}
-use Rattle.mask_gadget.proofs.product.row_of_products.Given as goal
+use Rattle.mask_gadget.proofs.product.multiply_row.Given as goal
 
 abbrev pub invariant-loop-j : goal.invariant-loop-j
 invariant-loop-j g l = record {

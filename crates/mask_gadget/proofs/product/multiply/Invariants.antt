@@ -1,7 +1,7 @@
 use Rattle.std.proofs.Common.{◌≡◌, ℕ, ◌+◌, ◌*◌, ◌<◌, ◌≤◌, map, get_or, bit_and}
 use Rattle.mask_circuit.specs.Wires.{each, joined}
 use Rattle.mask_gadget.specs.Wiring.{told_more, cell, IsSquare}
-use Rattle.mask_gadget.proofs.product.products.Given as goal
+use Rattle.mask_gadget.proofs.product.multiply.Given as goal
 
 abbrev pub invariant-loop-i : goal.invariant-loop-i
 invariant-loop-i g l = record {
