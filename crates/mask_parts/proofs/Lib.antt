@@ -1,1 +1,6 @@
+pub mod Growing
+pub mod Keeping
+pub mod Laying
 pub mod PartExamples
+pub mod PartGates
+pub mod Solving

@@ -9,7 +9,7 @@ use Rattle.mask_circuit.specs.Value.{value_at, plain}
 use Rattle.mask_parts.specs.declared.tables.Place.TheVariants.{Given, Made}
 use Rattle.mask_parts.specs.declared.tables.Step.TheVariants.{Xor as XorStep, Product}
 use Rattle.mask_parts.specs.Drafts.{with_gates, with_outputs}
-use Rattle.mask_parts.specs.Tables.{part_gates, part_values, is_part, with_part}
+use Rattle.mask_parts.specs.Tables.{part_gates, part_usable, is_part, with_part}
 use Rattle.mask_parts.specs.PresentSbox.{sbox, sbox_steps, sbox_results, with_sbox}
 use Rattle.mask_parts.specs.Fences.{with_fence}
 
@@ -53,7 +53,7 @@ taken_past : is_part 2 (XorStep (Given 0) (Given 2) ∷ []) ≡ false
 taken_past = refl
 
 -- the S-box is sound, and its results may be taken
-sbox_sound : (is_part 4 sbox_steps ≡ true) × (map (value_at (part_values sbox_steps)) (sbox_results 0) ≡ true ∷ true ∷ true ∷ true ∷ [])
+sbox_sound : (is_part 4 sbox_steps ≡ true) × (map (value_at (part_usable sbox_steps)) (sbox_results 0) ≡ true ∷ true ∷ true ∷ true ∷ [])
 unfolding sbox_steps sbox_results
 sbox_sound = (refl, refl)
 

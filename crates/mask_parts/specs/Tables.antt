@@ -30,15 +30,15 @@ step_gates n xs m (NotStep p) = Not (place_value n xs p) ∷ []
 step_gates n xs m (Product p q) = product_gates (n + m) (place_value n xs p) (place_value n xs q)
 
 -- for each value that a step makes, whether a later step may take it: all but the refresh in a product
-abbrev pub step_values : Step → List Bool
-step_values (XorStep p q) = true ∷ []
-step_values (NotStep p) = true ∷ []
-step_values (Product p q) = false ∷ (true ∷ [])
+abbrev pub step_usable : Step → List Bool
+step_usable (XorStep p q) = true ∷ []
+step_usable (NotStep p) = true ∷ []
+step_usable (Product p q) = false ∷ (true ∷ [])
 
 -- the gates of these steps, where the part has made m values before
 abbrev pub gates_from : ℕ → List ℕ → ℕ → List Step → List Gate
 gates_from n xs m [] = []
-gates_from n xs m (s ∷ ss) = step_gates n xs m s ++ gates_from n xs (m + length (step_values s)) ss
+gates_from n xs m (s ∷ ss) = step_gates n xs m s ++ gates_from n xs (m + length (step_usable s)) ss
 
 -- the gates of a part
 abbrev pub part_gates : ℕ → List ℕ → List Step → List Gate
@@ -68,12 +68,12 @@ ArePlaces k m (NotStep p) = IsPlace k m p
 ArePlaces k m (Product p q) = IsPlace k m p × IsPlace k m q
 
 -- for each value that these steps make, behind those made before, whether a later step may take it
-abbrev pub values_from : List Bool → List Step → List Bool
-values_from made [] = made
-values_from made (s ∷ ss) = values_from (made ++ step_values s) ss
+abbrev pub usable_from : List Bool → List Step → List Bool
+usable_from made [] = made
+usable_from made (s ∷ ss) = usable_from (made ++ step_usable s) ss
 
-abbrev pub part_values : List Step → List Bool
-part_values ss = values_from [] ss
+abbrev pub part_usable : List Step → List Bool
+part_usable ss = usable_from [] ss
 
 -- the place is one of k values handed in, or of the values made so far that may be taken
 abbrev pub is_place : ℕ → List Bool → Place → Bool
@@ -87,7 +87,7 @@ is_step k made (Product p q) = is_place k made p && is_place k made q
 
 abbrev pub are_steps : ℕ → List Bool → List Step → Bool
 are_steps k made [] = true
-are_steps k made (s ∷ ss) = is_step k made s && are_steps k (made ++ step_values s) ss
+are_steps k made (s ∷ ss) = is_step k made s && are_steps k (made ++ step_usable s) ss
 
 -- each step of a part that is handed k values takes such places alone
 abbrev pub is_part : ℕ → List Step → Bool

@@ -6,7 +6,7 @@ ghost use Rattle.mask_circuit.specs.Netlist.{value_count};
 ghost use Rattle.mask_circuit.specs.Value.{value_at};
 ghost use Rattle.mask_circuit.specs.Acceptance.{IsTidy};
 ghost use Rattle.mask_parts.specs.Drafts.{with_gates, Lays, bits_of};
-ghost use Rattle.mask_parts.specs.Tables.{place_value, IsPlace, ArePlaces, is_part, step_gates, step_result, with_part, part_bits, part_values};
+ghost use Rattle.mask_parts.specs.Tables.{place_value, IsPlace, ArePlaces, is_part, step_gates, step_result, with_part, part_bits, part_usable};
 ghost use Rattle.mask_parts.specs.Tidiness.{IsFree, KeepsTidy};
 
 use crate::products::product;
@@ -68,9 +68,9 @@ pub fn lay(b: &mut Builder, operands: &[u32], steps: &[Step]) -> Result<u32, Cir
     requires sound { IsTrue (is_part (length operands.now) steps.now) }
     ensures laid { Lays b.old (with_part b.old operands.now steps.now) (value_count b.old) b.new result }
     ensures plain { IfOk result (λ n. (x : List Bool) → length x ≡ b.old.inputs →
-        bits_of b.new x (range_with_len n (length (part_values steps.now))) ≡ part_bits (bits_of b.old x operands.now) steps.now) }
+        bits_of b.new x (range_with_len n (length (part_usable steps.now))) ≡ part_bits (bits_of b.old x operands.now) steps.now) }
     ensures tidy { IfOk result (λ n. IsTidy b.old → All (λ u. IsFree b.old u) operands.now →
-        KeepsTidy b.old b.new [] × ((k : ℕ) → value_at (part_values steps.now) k ≡ true → IsFree b.new (n + k))) }
+        KeepsTidy b.old b.new [] × ((k : ℕ) → value_at (part_usable steps.now) k ≡ true → IsFree b.new (n + k))) }
 {
     let first = b.values();
     for step in steps {
