@@ -70,6 +70,10 @@ with_gates-with_outputs c us gs = refl
 pub Grows-with_gates : (c : Netlist) (gs : List Gate) → Grows c (with_gates c gs)
 Grows-with_gates c gs = record { gates = gs; outputs = []; grown = sym (with_outputs-nil (with_gates c gs)) }
 
+-- a first part of the gates grows to all of them
+pub Grows-first_gates : (c : Netlist) (gs hs : List Gate) → Grows (with_gates c gs) (with_gates c (gs ++ hs))
+Grows-first_gates c gs hs = subst (Grows (with_gates c gs)) (with_gates-with_gates c gs hs) (Grows-with_gates (with_gates c gs) hs)
+
 pub Grows-with_outputs : (c : Netlist) (us : List ℕ) → Grows c (with_outputs c us)
 Grows-with_outputs c us = record { gates = []; outputs = us; grown = ap (λ (d : Netlist). with_outputs d us) (sym (with_gates-nil c)) }
 

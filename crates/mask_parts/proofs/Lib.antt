@@ -2,7 +2,9 @@ pub mod Fencing
 pub mod Growing
 pub mod Keeping
 pub mod Laying
+pub mod Multiplying
 pub mod PartExamples
 pub mod PartGates
+pub mod PartLaying
 pub mod PartTidiness
 pub mod Solving

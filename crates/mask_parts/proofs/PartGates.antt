@@ -5,15 +5,16 @@ use Rattle.std.proofs.lemmas.Bool.{cases_lt, false≢true, ltb-true, and_parts}
 use Rattle.std.proofs.lemmas.List.{append_assoc, get_or_past, get_or-map}
 use Rattle.std.proofs.lemmas.List.FromFn.{get_or-map-range_with_len, map-range_with_len_more}
 use Rattle.mask_circuit.specs.declared.gates.Gate.{Gate}
-use Rattle.mask_circuit.specs.Netlist.{AreGates}
-use Rattle.mask_circuit.specs.Value.{xor, value_at}
+use Rattle.mask_circuit.specs.Netlist.{Netlist, AreGates, value_count}
+use Rattle.mask_circuit.specs.Value.{xor, value_at, plain_values}
 use Rattle.mask_parts.specs.declared.tables.Place.{Place}
 use Rattle.mask_parts.specs.declared.tables.Place.TheVariants.{Given, Made}
 use Rattle.mask_parts.specs.declared.tables.Step.{Step}
 use Rattle.mask_parts.specs.declared.tables.Step.TheVariants.{Xor, Not, Product}
-use Rattle.mask_parts.specs.Tables.{place_value, step_gates, step_usable, gates_from, part_gates, usable_from, part_usable, IsPlace, ArePlaces, is_place, is_step, are_steps, is_part, place_bit, step_bits, bits_from, part_bits}
+use Rattle.mask_parts.specs.Drafts.{with_gates, bits_of}
+use Rattle.mask_parts.specs.Tables.{with_part, place_value, step_gates, step_usable, gates_from, part_gates, usable_from, part_usable, IsPlace, ArePlaces, is_place, is_step, are_steps, is_part, place_bit, step_bits, bits_from, part_bits}
 use Rattle.mask_parts.proofs.Growing.{AreGates-append}
-use Rattle.mask_parts.proofs.Solving.{Solves, Solves-left, Solves-right}
+use Rattle.mask_parts.proofs.Solving.{Solves, Solves-left, Solves-right, Solves-with_gates, bits_of-with_gates}
 
 -- PLACES
 
@@ -142,3 +143,14 @@ pub part_bits-solved : (vs : List Bool) (n : ℕ) (xs : List ℕ) (ss : List Ste
 part_bits-solved vs n xs ss sound s =
     let e : n ≡ n + 0 = omega arith in
     bits_from-solved vs n xs [] ss sound (subst (λ j. Solves vs j (part_gates n xs ss)) e s)
+
+-- so on a draft with the part at its end
+pub bits_of-with_part : (c : Netlist) (xs : List ℕ) (ss : List Step) (x : List Bool) → All (λ u. u < value_count c) xs → is_part (length xs) ss ≡ true → length x ≡ c.inputs →
+    bits_of (with_part c xs ss) x (range_with_len (value_count c) (length (part_usable ss))) ≡ part_bits (bits_of c x xs) ss
+unfolding with_part bits_of
+bits_of-with_part c xs ss x below sound long =
+    let n = value_count c in
+    let gs = part_gates n xs ss in
+    let solved = Solves-with_gates c gs x long (AreGates-part n xs ss below sound) in
+    sym (part_bits-solved (plain_values (with_gates c gs) x) n xs ss sound solved)
+    ∙ ap (λ (bs : List Bool). part_bits bs ss) (bits_of-with_gates c gs x xs long below)
