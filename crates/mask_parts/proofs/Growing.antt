@@ -77,6 +77,10 @@ Grows-first_gates c gs hs = subst (Grows (with_gates c gs)) (with_gates-with_gat
 pub Grows-with_outputs : (c : Netlist) (us : List ℕ) → Grows c (with_outputs c us)
 Grows-with_outputs c us = record { gates = []; outputs = us; grown = ap (λ (d : Netlist). with_outputs d us) (sym (with_gates-nil c)) }
 
+-- a first part of the outputs grows to all of them
+pub Grows-first_outputs : (c : Netlist) (us vs : List ℕ) → Grows (with_outputs c us) (with_outputs c (us ++ vs))
+Grows-first_outputs c us vs = subst (Grows (with_outputs c us)) (with_outputs-with_outputs c us vs) (Grows-with_outputs (with_outputs c us) vs)
+
 pub Grows-refl : (c : Netlist) → Grows c c
 Grows-refl c = subst (λ (d : Netlist). Grows c d) (with_gates-nil c) (Grows-with_gates c [])
 

@@ -30,6 +30,7 @@ fn refresh_all(b: &mut Builder, values: &[u32]) -> Result<(), CircuitError>
     requires { All (λ u. u < value_count b.old) values.now }
     ensures { Lays b.old (with_gates b.old (map Ref values.now)) tt b.new result }
 {
+    let _values = b.values();
     for value in values {
         b.refresh(*value)?;
     }
@@ -42,6 +43,7 @@ fn out_all(b: &mut Builder, first: u32, end: u32) -> Result<(), CircuitError>
     requires known { end ≤ value_count b.old }
     ensures { Lays b.old (with_outputs b.old (range_with_len first (end - first))) tt b.new result }
 {
+    let _values = b.values();
     for value in first..end {
         b.out(value)?;
     }

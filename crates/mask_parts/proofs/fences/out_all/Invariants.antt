@@ -1,13 +1,9 @@
-use Rattle.std.proofs.Common.{◌≡◌, ℕ, ◌+◌, ◌-◌, ◌<◌, ◌≤◌, Bool, List, [], ◌++◌, length, map, All, IfOk, OnOk, ◌*◌}
+use Rattle.std.proofs.Common.{◌-◌}
 use Rattle.std.specs.List.{range_with_len}
-use Rattle.mask_circuit.specs.declared.gates.Gate.TheVariants.{Ref}
-use Rattle.mask_circuit.specs.Netlist.{value_count}
-use Rattle.mask_circuit.specs.Value.{plain}
-use Rattle.mask_circuit.specs.Acceptance.{IsAccepted, IsStrong, IsTidy}
-use Rattle.mask_parts.specs.Drafts.{with_gates, with_outputs, bits_of, Lays}
-use Rattle.mask_parts.specs.Fences.{with_fence}
-use Rattle.mask_parts.specs.Tidiness.{IsFree, KeepsTidy}
+use Rattle.mask_parts.specs.Drafts.{with_outputs}
+use Rattle.mask_parts.proofs.Laying.{IsUnderWay}
 use Rattle.mask_parts.proofs.fences.out_all.Given as goal
 
 abbrev pub invariant-loop-value : goal.invariant-loop-value
-invariant-loop-value l = ?
+invariant-loop-value l =
+    IsUnderWay l.fn.b l.b (with_outputs l.b (range_with_len l.value (l.end - l.value))) (with_outputs l.fn.b (range_with_len l.first (l.end - l.first)))
