@@ -8,3 +8,4 @@ pub mod PartGates
 pub mod PartLaying
 pub mod PartTidiness
 pub mod Solving
+pub mod Substituting

@@ -1,10 +1,12 @@
 -- The S-box of PRESENT, as the table of the standard and as a part of five products.
 use Rattle.std.specs.Prelude.{ℕ, ◌+◌, List, [], ◌∷◌, slice_index}
+use Rattle.mask_circuit.specs.declared.gates.Gate.{Gate}
 use Rattle.mask_circuit.specs.Netlist.{Netlist, value_count}
 use Rattle.mask_parts.specs.declared.tables.Place.TheVariants.{Given, Made}
 use Rattle.mask_parts.specs.declared.tables.Step.{Step}
 use Rattle.mask_parts.specs.declared.tables.Step.TheVariants.{Xor, Not, Product}
-use Rattle.mask_parts.specs.Tables.{with_part}
+use Rattle.mask_parts.specs.Drafts.{with_gates}
+use Rattle.mask_parts.specs.Tables.{part_gates}
 
 -- S(0), S(1), .., S(15): ISO/IEC 29192-2; Bogdanov and others 2007, section 3
 abbrev pub sbox_table : List ℕ
@@ -42,10 +44,14 @@ sbox_steps =
     ∷ (Not (Made 24)  -- 25
     ∷ []))))))))))))))))))))
 
--- the draft with that circuit at its end
-unfoldable pub with_sbox : Netlist → List ℕ → Netlist
-with_sbox c xs = with_part c xs sbox_steps
+-- its 26 gates, on the values xs of the bits 0 to 3, where the first gate makes value n
+unfoldable pub sbox_gates : ℕ → List ℕ → List Gate
+sbox_gates n xs = part_gates n xs sbox_steps
 
--- the values that it hands back, bit 0 first, where its first value is n
+-- the draft with them at its end
+unfoldable pub with_sbox : Netlist → List ℕ → Netlist
+with_sbox c xs = with_gates c (sbox_gates (value_count c) xs)
+
+-- the values of the result's bits 0 to 3
 unfoldable pub sbox_results : ℕ → List ℕ
 sbox_results n = (n + 16) ∷ ((n + 17) ∷ ((n + 21) ∷ ((n + 25) ∷ [])))
