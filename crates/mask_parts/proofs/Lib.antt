@@ -1,6 +1,8 @@
+pub mod Concluding
 pub mod Fencing
 pub mod Growing
 pub mod Keeping
+pub mod Layering
 pub mod Laying
 pub mod Multiplying
 pub mod PartExamples

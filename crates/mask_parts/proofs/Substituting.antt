@@ -103,23 +103,26 @@ usable_results : (value_at (part_usable sbox_steps) 16 ≡ true) × (value_at (p
 unfolding sbox_steps
 usable_results = (refl, refl, refl, refl)
 
--- the circuit on free values keeps a draft tidy, and its results are free
-pub KeepsTidy-sbox : (c : Netlist) (xs : List ℕ) → AreGates c.inputs c.gates → length xs ≡ 4 → All (λ u. u < value_count c) xs → IsTidy c → All (IsFree c) xs →
-    KeepsTidy c (with_sbox c xs) (sbox_results (value_count c))
+-- where the values that its table flags are free, so are its results
+pub KeepsTidy-sbox_results : (c d : Netlist) (n : ℕ) → KeepsTidy c d [] → ((k : ℕ) → value_at (part_usable sbox_steps) k ≡ true → IsFree d (n + k)) →
+    KeepsTidy c d (sbox_results n)
 unfolding sbox_results
-KeepsTidy-sbox c xs are four below tidy free =
-    let n = value_count c in
-    let d = with_sbox c xs in
-    let kept : KeepsTidy c d [] × ((k : ℕ) → value_at (part_usable sbox_steps) k ≡ true → IsFree d (n + k)) =
-        rw (with_sbox-with_part c xs) (KeepsTidy-part c xs sbox_steps are below (rw four is_part-sbox) tidy free) in
+KeepsTidy-sbox_results c d n kept free =
     let last = (n + 25) ∷ [] in
     let high = (n + 21) ∷ last in
     let more = (n + 17) ∷ high in
     record {
-      tidy = kept.0.tidy;
-      results_free = All-cons (IsFree d) (n + 16) more (kept.1 16 usable_results.0)
-          (All-cons (IsFree d) (n + 17) high (kept.1 17 usable_results.1)
-          (All-cons (IsFree d) (n + 21) last (kept.1 21 usable_results.2)
-          (All-cons (IsFree d) (n + 25) [] (kept.1 25 usable_results.3) (All-nil (IsFree d)))));
-      still_free = kept.0.still_free;
+      tidy = kept.tidy;
+      results_free = All-cons (IsFree d) (n + 16) more (free 16 usable_results.0)
+          (All-cons (IsFree d) (n + 17) high (free 17 usable_results.1)
+          (All-cons (IsFree d) (n + 21) last (free 21 usable_results.2)
+          (All-cons (IsFree d) (n + 25) [] (free 25 usable_results.3) (All-nil (IsFree d)))));
+      still_free = kept.still_free;
     }
+
+-- the circuit on free values keeps a draft tidy, and its results are free
+pub KeepsTidy-sbox : (c : Netlist) (xs : List ℕ) → AreGates c.inputs c.gates → length xs ≡ 4 → All (λ u. u < value_count c) xs → IsTidy c → All (IsFree c) xs →
+    KeepsTidy c (with_sbox c xs) (sbox_results (value_count c))
+KeepsTidy-sbox c xs are four below tidy free =
+    let kept = KeepsTidy-part c xs sbox_steps are below (rw four is_part-sbox) tidy free in
+    rw (with_sbox-with_part c xs) (KeepsTidy-sbox_results c (with_part c xs sbox_steps) (value_count c) kept.0 kept.1)

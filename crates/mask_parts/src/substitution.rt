@@ -22,7 +22,6 @@ pub fn sbox4_present(b: &mut Builder, x: [u32; 4]) -> Result<[u32; 4], CircuitEr
     ensures tidy { IfOk result (λ y. IsTidy b.old → All (λ u. IsFree b.old u) x → KeepsTidy b.old b.new y) }
 {
     let first = lay(b, &x, &steps())?;
-    let _values = b.values();
     Ok([first + 16, first + 17, first + 21, first + 25])
 }
 

@@ -1,12 +1,14 @@
-use Rattle.std.proofs.Common.{◌≡◌, ℕ, ◌+◌, ◌≤◌, List, length, rules, refl, ap, sym, ◌∙◌, subst, arith}
+use Rattle.std.proofs.Common.{◌≡◌, ℕ, ◌+◌, ◌≤◌, true, List, length, rules, refl, ap, sym, ◌∙◌, subst, arith}
 use Rattle.mask_circuit.specs.Netlist.{Netlist, value_count}
+use Rattle.mask_circuit.specs.Value.{value_at}
 use Rattle.mask_parts.specs.declared.tables.Step.{Step}
 use Rattle.mask_parts.specs.Drafts.{Grows, IsWithinLimits}
-use Rattle.mask_parts.specs.Tables.{with_part}
+use Rattle.mask_parts.specs.Tables.{part_usable, with_part}
+use Rattle.mask_parts.specs.Tidiness.{IsFree}
 use Rattle.mask_parts.specs.PresentSbox.{sbox_steps, sbox_results, sbox_gates, with_sbox}
 use Rattle.mask_parts.proofs.Growing.{value_count-with_gates, Grows-refl}
 use Rattle.mask_parts.proofs.Laying.{Lays-exit}
-use Rattle.mask_parts.proofs.Substituting.{is_part-sbox, length-sbox_gates, with_sbox-with_part, number-with_sbox, KeepsTidy-sbox}
+use Rattle.mask_parts.proofs.Substituting.{is_part-sbox, length-sbox_gates, with_sbox-with_part, number-with_sbox, KeepsTidy-sbox_results}
 use Rattle.mask_parts.proofs.substitution.sbox4_present.Goals as goal
 
 -- what `lay` made of the table
@@ -67,7 +69,6 @@ returns-clause-plain c =
 pub returns-clause-tidy : goal.returns-clause-tidy
 unfolding sbox_results
 returns-clause-tidy c =
-    let laid = c.in_ok-first.ensures.laid in
-    let four : length c.args.x ≡ 4 = search rules in
-    let all = laid.1 ∙ same_draft c.args.b.now c.args.x c.steps.result c.steps.ensures in
-    λ tidy free. rw (all, laid.0) (KeepsTidy-sbox c.args.b.now c.args.x ? four c.requires tidy free)
+    λ tidy free. (let kept = c.in_ok-first.ensures.tidy tidy free in
+    KeepsTidy-sbox_results c.args.b.now c.lay.new.b c.in_ok-first.first kept.0
+    (subst (λ (ss : List Step). (k : ℕ) → value_at (part_usable ss) k ≡ true → IsFree c.lay.new.b (c.in_ok-first.first + k)) c.steps.ensures kept.1))
