@@ -1,1 +1,4 @@
 pub mod Cutting
+pub mod Finding
+pub mod Sharing
+pub mod Sending

@@ -60,5 +60,5 @@ abbrev pub line_text : List ℕ → List ℕ
 line_text line = encode_lower line ++ 10 ∷ []
 
 -- the key file that is written of lines
-abbrev pub key_file : List (List ℕ) → List ℕ
+unfoldable pub key_file : List (List ℕ) → List ℕ
 key_file lines = flat_map line_text lines

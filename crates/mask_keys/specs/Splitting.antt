@@ -13,20 +13,20 @@ use Rattle.mask_keys.specs.declared.split.SplitError.TheVariants.{TapeFault, Wri
 use Rattle.mask_keys.specs.Files.{key_file}
 
 -- the n bytes that have this low-first reading
-abbrev pub packed : ℕ → List Bool → List ℕ
+unfoldable pub packed : ℕ → List Bool → List ℕ
 packed zero reading = []
 packed (suc n) reading = number (take 8 reading) ∷ packed n (drop 8 reading)
 
 -- share k of each of these bits: the first d coins share the first bit, the next ones the second, and so on
-abbrev pub shares_at : ℕ → ℕ → List Bool → List Bool → List Bool
+unfoldable pub shares_at : ℕ → ℕ → List Bool → List Bool → List Bool
 shares_at d k plain coins = map (λ shares. listed bits shares k) (all_shared bits d plain coins)
 
 -- line k of a split at order d: share k of each bit of the key; key and line are read low first
-abbrev pub split_line : ℕ → List ℕ → List Bool → ℕ → List ℕ
+unfoldable pub split_line : ℕ → List ℕ → List Bool → ℕ → List ℕ
 split_line d key coins k = packed (length key) (shares_at d k (low key) coins)
 
 -- its d + 1 lines
-abbrev pub split_lines : ℕ → List ℕ → List Bool → List (List ℕ)
+unfoldable pub split_lines : ℕ → List ℕ → List Bool → List (List ℕ)
 split_lines d key coins = each (split_line d key coins) (suc d)
 
 -- how many coins they take
