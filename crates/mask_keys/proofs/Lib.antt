@@ -1,4 +1,6 @@
 pub mod Cutting
+pub mod Deciding
+pub mod Filling
 pub mod Finding
-pub mod Sharing
 pub mod Sending
+pub mod Sharing

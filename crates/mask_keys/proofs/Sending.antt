@@ -1,21 +1,10 @@
--- Sending key lines one by one, and what came in a buffer.
-use Rattle.std.proofs.Common.{◌≡◌, ℕ, suc, ◌+◌, ◌-◌, ◌<◌, ◌≤◌, List, [], ◌∷◌, ◌++◌, length, take, drop, get_or, Option, refl, sym, ap, ◌∙◌, subst, arith, add-one, drop-cons, length-append, Some, slice_get}
-use borrow.Rule.Slice.PartMut.{put_mid, post_of}
-use Rattle.std.proofs.lemmas.List.{take_at, take-append-le, drop_all, length-take-le}
-use Rattle.std.proofs.Math.Seq.{take-append-add}
+-- Sending key lines one by one.
+use Rattle.std.proofs.Common.{◌≡◌, ℕ, suc, ◌+◌, ◌<◌, ◌≤◌, List, [], ◌∷◌, ◌++◌, length, drop, get_or, Option, sym, ap, ◌∙◌, subst, add-one, drop-cons}
+use Rattle.std.proofs.lemmas.List.{drop_all}
 use Rattle.std.specs.Io.KnownBytes.{Appends}
 use Rattle.mask_io.specs.Outside.{AppendsProperPrefix}
-use Rattle.mask_circuit.specs.Wires.{each}
-use Rattle.mask_text.proofs.Sends.{Sent, sent-none, sent-more, sent-all, sent-stopped}
+use Rattle.mask_text.proofs.Sends.{Sent, sent-more, sent-all, sent-stopped}
 use Rattle.mask_keys.specs.Files.{line_text, key_file}
-
--- more came behind what had come
-pub came_more : (a n k : ℕ) (buf piece : List ℕ) → a ≤ length buf → n ≤ length piece → take (a + n) (put_mid a k buf piece) ≡ take a buf ++ take n piece
-came_more a n k buf piece within few =
-    let front : length (take a buf) ≡ a = length-take-le a buf within in
-    ap (λ (m : ℕ). take (m + n) (take a buf ++ (piece ++ post_of a k buf))) (sym front)
-    ∙ take-append-add (take a buf) (piece ++ post_of a k buf) n
-    ∙ ap (λ (xs : List ℕ). take a buf ++ xs) (take-append-le n piece (post_of a k buf) few)
 
 -- the next line of a list
 module _ (lines : List (List ℕ)) (i : ℕ) (line : List ℕ) (below : i < length lines) (is : line ≡ get_or lines i []) where
