@@ -3,5 +3,6 @@ pub mod Cutting
 pub mod Deciding
 pub mod Filling
 pub mod Finding
+pub mod Joining
 pub mod Sending
 pub mod Sharing

@@ -58,7 +58,8 @@ pub record AreSharesOf (d : ℕ) (key : List ℕ) (lines : List (List ℕ)) : Ty
   pub join : joined lines ≡ key
 
 abbrev pub SplitsJoin : Type 0
-SplitsJoin = (d : ℕ) (key : List ℕ) (coins : List Bool) → d ≤ 7 → IsKey key → AreSharesOf d key (split_lines d key coins)
+SplitsJoin = (d : ℕ) (key : List ℕ) (coins : List Bool) → d ≤ 7 → IsKey key → split_bits d key ≤ length coins →
+    AreSharesOf d key (split_lines d key coins)
 
 -- the lines of these numbers
 abbrev pub shown : List ℕ → List (List ℕ) → List (List ℕ)
