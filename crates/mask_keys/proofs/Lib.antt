@@ -3,6 +3,7 @@ pub mod Cutting
 pub mod Deciding
 pub mod Filling
 pub mod Finding
+pub mod Hiding
 pub mod Joining
 pub mod Sending
 pub mod Sharing

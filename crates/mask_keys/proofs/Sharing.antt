@@ -16,7 +16,7 @@ use Rattle.mask_keys.proofs.Cutting.{line_end}
 
 -- ALL SHARES
 
-length-all_shared : (d : ℕ) (plain coins : List Bool) → length (all_shared bits d plain coins) ≡ length plain
+pub length-all_shared : (d : ℕ) (plain coins : List Bool) → length (all_shared bits d plain coins) ≡ length plain
 length-all_shared d [] coins = refl
 length-all_shared d (b ∷ plain) coins = ap suc (length-all_shared d plain (drop d coins))
 
