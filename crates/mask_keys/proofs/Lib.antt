@@ -5,5 +5,6 @@ pub mod Filling
 pub mod Finding
 pub mod Hiding
 pub mod Joining
+pub mod Returning
 pub mod Sending
 pub mod Sharing
