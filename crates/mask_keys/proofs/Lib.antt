@@ -1,6 +1,7 @@
 pub mod Answering
 pub mod Cutting
 pub mod Deciding
+mod FileExamples
 pub mod Filling
 pub mod Finding
 pub mod Hiding
@@ -8,3 +9,4 @@ pub mod Joining
 pub mod Returning
 pub mod Sending
 pub mod Sharing
+mod SplitExamples
