@@ -1,6 +1,7 @@
 //! `eval`: the output bits of a circuit that is evaluated on shares.
 
 ghost use Rattle.std.specs.Prelude.{◌≡◌, ◌+◌, ◌≤◌, [], ◌∷◌, length, IfOk, IfErr, OnOk, OnErr, IsTrue, MatchResult};
+ghost use Rattle.mask_bits.specs.Reading.{bytes_for};
 ghost use Rattle.mask_io.specs.Outside.{faults_after};
 ghost use Rattle.mask_circuit.specs.Value.{plain};
 ghost use Rattle.mask_check.specs.Costs.{most_steps};
@@ -12,7 +13,7 @@ ghost use Rattle.mask_words.specs.Jobs.{EvalWords};
 ghost use Rattle.mask_words.specs.declared.table.Job.TheVariants.{Eval};
 ghost use Rattle.mask_inspect.specs.Checks.{Grammar, Inputs, Acceptance};
 ghost use Rattle.mask_inspect.specs.Ends.{Takes, Stops, CostsAtMost, IsEarly, is_read_fault, is_tape_fault, is_write_fault};
-ghost use Rattle.mask_run.specs.Outside.{Outside, LeavesTape, LeavesWatch, TellsNothing, WritesNothing, bytes_for};
+ghost use Rattle.mask_run.specs.Outside.{Outside, LeavesTape, LeavesWatch, TellsNothing, WritesNothing};
 ghost use Rattle.mask_run.specs.Calls.{eval_bits, Evaluates, TellsSecureCalls};
 ghost use Rattle.mask_run.specs.Evaluating.{Prepares};
 ghost use Rattle.mask_run.specs.Hexadecimal.{IsReport};

@@ -2,6 +2,7 @@
 
 ghost use Rattle.std.specs.Prelude.{◌≡◌, ℕ, ◌+◌, ◌-◌, ◌*◌, ◌^◌, ◌<◌, ◌≤◌, [], ◌∷◌, length, map, drop, IfOk, IfErr, OnOk, OnErr};
 ghost use Rattle.mask_io.specs.Outside.{faults_after};
+ghost use Rattle.mask_bits.specs.Reading.{bytes_for};
 ghost use Rattle.mask_bits.specs.Lanes.{lane};
 ghost use Rattle.mask_circuit.specs.Netlist.{Netlist};
 ghost use Rattle.mask_circuit.specs.Ring.{words};
@@ -12,7 +13,6 @@ ghost use Rattle.mask_tape.specs.Tape.{failed_to_draw};
 ghost use Rattle.mask_tape.specs.declared.tape.TapeError.TheVariants.{Failed, NoMemory};
 ghost use Rattle.mask_eval.specs.Frames.{IsFrameOf, input_values};
 ghost use Rattle.mask_eval.specs.Watching.{told_more};
-ghost use Rattle.mask_run.specs.Outside.{bytes_for};
 ghost use Rattle.mask_run.specs.Calls.{eval_bits, eval_call, Evaluates, TellsSecureCalls};
 ghost use Rattle.mask_run.specs.Hexadecimal.{IsReport};
 ghost use Rattle.mask_run.specs.Lanes.{words_of, first_bit};

@@ -2,7 +2,7 @@
 
 ghost use Rattle.std.specs.Prelude.{◌≡◌, ℕ, ◌+◌, ◌*◌, ◌^◌, ◌<◌, ◌≤◌, [], ◌∷◌, List, length, IfOk, IfErr, OnOk, OnErr};
 ghost use Rattle.mask_io.specs.Outside.{faults_after, Takes};
-ghost use Rattle.mask_tape.specs.Tape.{bytes_for, failed_to_draw, IsDrawn};
+ghost use Rattle.mask_tape.specs.Tape.{new_bytes, failed_to_draw, IsDrawn};
 ghost use Rattle.mask_tape.specs.declared.tape.TapeError.TheVariants.{Failed, NoMemory};
 
 use crate::coins::Coins;
@@ -84,12 +84,12 @@ impl Tape {
         ensures wants { OnOk result (E.wanted entropy.new ≡ E.wanted entropy.old) }
         ensures same { OnErr result (self.new ≡ self.old) }
         ensures left { OnErr result (E.left entropy.new ≡ E.left entropy.old) }
-        ensures failed { IfErr result (λ e. e ≡ Failed → (E.wanted entropy.new ≡ bytes_for self.old (lanes * bits))
+        ensures failed { IfErr result (λ e. e ≡ Failed → (E.wanted entropy.new ≡ new_bytes self.old (lanes * bits))
             × (1 ≤ E.wanted entropy.new)) }
         ensures no_memory { IfErr result (λ e. e ≡ NoMemory → entropy.new ≡ entropy.old) }
 
         // No new byte is needed: the entropy isn't asked.
-        ensures unasked { bytes_for self.old (lanes * bits) ≡ 0 → entropy.new ≡ entropy.old }
+        ensures unasked { new_bytes self.old (lanes * bits) ≡ 0 → entropy.new ≡ entropy.old }
         ensures counts { E.faults entropy.new ≡ faults_after (failed_to_draw result) (E.faults entropy.old) }
     {
         let lanes = lanes as usize;
