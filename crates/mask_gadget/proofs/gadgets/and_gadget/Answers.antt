@@ -46,4 +46,4 @@ pub returns-clause-bit : goal.returns-clause-bit
 returns-clause-bit g c =
     λ l. rw (returns-clause-shares g c l)
     (unmasked-and g.row.N (lane l c.args.x) (lane l c.args.y) (lane l (coins_of g.row.N c.args.coins.now))
-    (length-lane l g.row.N c.args.x c.count.ensures.length) (length-lane l g.row.N c.args.y c.count-2.ensures.length))
+    (length-lane l g.row.N c.args.x c.count.ensures.length) (length-lane l g.row.N c.args.y c.count-2.ensures.length) c.requires.some)

@@ -44,4 +44,5 @@ returns-clause-wires g c =
 pub returns-clause-bit : goal.returns-clause-bit
 returns-clause-bit g c =
     λ l. rw (returns-clause-shares g c l)
-    (unmasked-ref g.row.N (lane l c.args.x) (lane l (coins_of g.row.N c.args.coins.now)) (length-lane l g.row.N c.args.x c.count.ensures.length))
+    (unmasked-ref g.row.N (lane l c.args.x) (lane l (coins_of g.row.N c.args.coins.now)) (length-lane l g.row.N c.args.x c.count.ensures.length)
+    c.requires.some)
