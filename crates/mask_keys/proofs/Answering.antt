@@ -7,7 +7,7 @@ use Rattle.mask_keys.specs.declared.files.KeyLength.{KeyLength}
 use Rattle.mask_keys.specs.declared.files.KeyError.{KeyError}
 use Rattle.mask_keys.specs.declared.files.KeyError.TheVariants.{KeyFault, Long, Line, Count}
 use Rattle.mask_keys.specs.Files.{IsKeyFile, fault, fault_of, first_bad}
-use Rattle.mask_keys.specs.Answers.{Answers, Came, Whole, TooMany, Broken, Reads, IsUnlessFailed, IsAnswerTo}
+use Rattle.mask_keys.specs.Answers.{Answers, Came, Whole, TooMany, Broken, Reads, IsUnlessFailed, IsAnswerTo, failed_to_read}
 use Rattle.mask_keys.proofs.Deciding.{stands_once, no_fault}
 
 module _ (count : ℕ) (asked : KeyLength) (bytes : List ℕ) where
@@ -66,7 +66,10 @@ fault-no_key_fault count asked bytes e = by (first_bad asked (text_lines bytes))
         either true e = cc
         either false e = cc
 
-pub answers-no_key_fault : (count : ℕ) (asked : KeyLength) (bytes : List ℕ) (result : Result (List (List ℕ)) KeyError) →
-    IfErr result (λ error. fault count asked bytes ≡ Some error) → result ≡ Err KeyFault → ⊥
-answers-no_key_fault count asked bytes (Ok lines) bad e = cc
-answers-no_key_fault count asked bytes (Err error) bad e = fault-no_key_fault count asked bytes (let same : error ≡ KeyFault = cc in bad ∙ ap Some same)
+pub answers-unfailed : (count : ℕ) (asked : KeyLength) (bytes : List ℕ) (result : Result (List (List ℕ)) KeyError) →
+    IfErr result (λ error. fault count asked bytes ≡ Some error) → failed_to_read result ≡ false
+answers-unfailed count asked bytes (Ok lines) bad = refl
+answers-unfailed count asked bytes (Err KeyFault) bad = absurd (fault-no_key_fault count asked bytes bad)
+answers-unfailed count asked bytes (Err Long) bad = refl
+answers-unfailed count asked bytes (Err (Line line)) bad = refl
+answers-unfailed count asked bytes (Err (Count found)) bad = refl

@@ -11,10 +11,11 @@ use Rattle.mask_bits.specs.Reading.{bit, lowest, low, number}
 use Rattle.mask_bits.proofs.Bytes.{length-low, low-place}
 use Rattle.mask_bits.proofs.Numbers.{number-lt, bit-number, number-lowest}
 use Rattle.mask_circuit.specs.Ring.{bits}
-use Rattle.mask_circuit.specs.Sharing.{shared}
+use Rattle.mask_circuit.specs.Sharing.{shared, unmasked}
 use Rattle.mask_circuit.specs.Value.{xor}
 use Rattle.mask_circuit.specs.Wires.{each}
 use Rattle.mask_shares.proofs.Lists.{length-each, get_or-each, each-same, is_each}
+use Rattle.mask_laws.proofs.BitSums.{fold-xor}
 use Rattle.mask_laws.proofs.Bits.{xor-false, xor_self, xor_assoc}
 use Rattle.mask_laws.proofs.CircuitNames.{All-each}
 use Rattle.mask_keys.specs.Lines.{AreKeyLines, line_length, joined}
@@ -59,21 +60,13 @@ byte-same a b ha hb same =
 
 -- THE SHARES OF ONE BIT
 
--- what the sum begins with counts once
-fold_from : (b c : Bool) (xs : List Bool) → fold xor (xor b c) xs ≡ xor b (fold xor c xs)
-fold_from b c [] = refl
-fold_from b c (x ∷ xs) = ap (λ (s : Bool). fold xor s xs) (xor_assoc b c x) ∙ fold_from b (xor c x) xs
-
-fold_start : (b : Bool) (xs : List Bool) → fold xor b xs ≡ xor b (fold xor false xs)
-fold_start b xs = ap (λ (s : Bool). fold xor s xs) (sym (xor-false b)) ∙ fold_from b false xs
-
 -- the sum of all shares of a bit is the bit
-shares-sum : (b : Bool) (coins : List Bool) → fold xor false (shared bits b coins) ≡ b
+shares-sum : (b : Bool) (coins : List Bool) → unmasked bits (shared bits b coins) ≡ b
 shares-sum b coins =
-    fold_start (fold xor b coins) coins
-    ∙ ap (λ (s : Bool). xor s (fold xor false coins)) (fold_start b coins)
-    ∙ xor_assoc b (fold xor false coins) (fold xor false coins)
-    ∙ ap (xor b) (xor_self (fold xor false coins))
+    fold-xor (fold xor b coins) coins
+    ∙ ap (λ (s : Bool). xor s (unmasked bits coins)) (fold-xor b coins)
+    ∙ xor_assoc b (unmasked bits coins) (unmasked bits coins)
+    ∙ ap (xor b) (xor_self (unmasked bits coins))
     ∙ xor-false b
 
 -- a list is made of its elements

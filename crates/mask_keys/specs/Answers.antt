@@ -1,5 +1,5 @@
 -- What the answer of `read_keys` says of its source.
-use Rattle.std.specs.Prelude.{◌≡◌, ◌⊎◌, ℕ, ◌<◌, ◌≤◌, Result, Ok, Err, Option, Some, List, length}
+use Rattle.std.specs.Prelude.{◌≡◌, ◌⊎◌, ℕ, ◌<◌, ◌≤◌, Bool, true, false, Result, Ok, Err, Option, Some, List, length}
 use Rattle.std.specs.Io.KnownBytes.{Consumes, IsAtEnd}
 use Rattle.mask_keys.specs.declared.files.KeyLength.{KeyLength}
 use Rattle.mask_keys.specs.declared.files.KeyError.{KeyError}
@@ -23,6 +23,11 @@ pub data Came (count : ℕ) (asked : KeyLength) (bytes : List ℕ) (rest : Optio
 -- These bytes were taken from the source, and they explain the answer.
 abbrev pub Reads : ℕ → KeyLength → Option (List ℕ) → Option (List ℕ) → Result (List (List ℕ)) KeyError → Type 0
 Reads count asked before now result = (bytes : List ℕ) × Consumes before now bytes × Came count asked bytes now result
+
+-- the answer is that a read failed
+abbrev pub failed_to_read : Result (List (List ℕ)) KeyError → Bool
+failed_to_read (Err KeyFault) = true
+failed_to_read answer = false
 
 -- the answer is this one, unless a read failed
 abbrev pub IsUnlessFailed : Result (List (List ℕ)) KeyError → Result (List (List ℕ)) KeyError → Type 0

@@ -1,5 +1,7 @@
 -- Key lines: the shares of a key, each a list of bytes.
-use Rattle.std.specs.Prelude.{◌≡◌, ℕ, zero, suc, ◌≤◌, List, [], ◌∷◌, map, fold, length, take, drop, slice_index, slice_index_or, bit_xor, All}
+use Rattle.std.specs.Prelude.{◌≡◌, ℕ, zero, suc, ◌≤◌, List, [], ◌∷◌, map, length, take, drop, slice_index, slice_index_or, All}
+use Rattle.mask_circuit.specs.Ring.{words}
+use Rattle.mask_circuit.specs.Sharing.{unmasked}
 use Rattle.mask_circuit.specs.Wires.{each}
 
 -- how many bytes a line has: as many as the first one
@@ -19,6 +21,6 @@ abbrev pub lines_of : ℕ → ℕ → List ℕ → List (List ℕ)
 lines_of zero n bytes = []
 lines_of (suc count) n bytes = take n bytes ∷ lines_of count n (drop n bytes)
 
--- the key that the lines are shares of: byte by byte their exclusive or
+-- the key that the lines are shares of: each byte is the exclusive or of the lines' bytes at its place
 abbrev pub joined : List (List ℕ) → List ℕ
-joined lines = each (λ b. fold bit_xor 0 (map (λ (line : List ℕ). slice_index line b) lines)) (line_length lines)
+joined lines = each (λ b. unmasked words (map (λ (line : List ℕ). slice_index line b) lines)) (line_length lines)

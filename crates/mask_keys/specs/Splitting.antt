@@ -1,13 +1,13 @@
 -- A key split into lines: each of its bits is shared with the next coins of the tape (Ishai, Sahai and Wagner 2003).
-use Rattle.std.specs.Prelude.{◌≡◌, ℕ, zero, suc, ◌*◌, ◌≤◌, Bool, Result, Ok, Err, Option, List, [], ◌∷◌, map, length, take, drop}
+use Rattle.std.specs.Prelude.{◌≡◌, ℕ, zero, suc, ◌*◌, ◌≤◌, Bool, true, false, Result, Ok, Err, Option, List, [], ◌∷◌, map, length, take, drop}
 use Rattle.std.specs.Io.KnownBytes.{Appends}
 use Rattle.mask_bits.specs.Lanes.{lane}
 use Rattle.mask_bits.specs.Reading.{low, number}
 use Rattle.mask_circuit.specs.Ring.{bits}
 use Rattle.mask_circuit.specs.Sharing.{listed, all_shared}
 use Rattle.mask_circuit.specs.Wires.{each}
-use Rattle.mask_io.specs.Outside.{Rose, AppendsProperPrefix}
-use Rattle.mask_tape.specs.Tape.{IsDrawn, bytes_for}
+use Rattle.mask_io.specs.Outside.{AppendsProperPrefix}
+use Rattle.mask_tape.specs.Tape.{IsDrawn, new_bytes}
 use Rattle.mask_keys.specs.declared.split.SplitError.{SplitError}
 use Rattle.mask_keys.specs.declared.split.SplitError.TheVariants.{TapeFault, WriteFault, NoMemory}
 use Rattle.mask_keys.specs.Files.{key_file}
@@ -33,20 +33,16 @@ split_lines d key coins = each (split_line d key coins) (suc d)
 abbrev pub split_bits : ℕ → List ℕ → ℕ
 split_bits d key = 8 * d * length key
 
--- What a split finds and leaves: the kept bits of the tape, what the entropy has left and counts, and what the sink has
--- written and counts, each before and now, and what the entropy wants.
+-- What a split finds and leaves: the kept bits of the tape, what the entropy has left, and what the sink has written, each
+-- before and now, and what the entropy wants.
 pub record Outside : Type 0 where
   pub kept_before : List Bool
   pub kept_now : List Bool
   pub left_before : Option (List ℕ)
   pub left_now : Option (List ℕ)
-  pub faults_before : ℕ
-  pub faults_now : ℕ
   pub wanted : ℕ
   pub written_before : Option (List ℕ)
   pub written_now : Option (List ℕ)
-  pub sink_faults_before : ℕ
-  pub sink_faults_now : ℕ
 
 -- These words were drawn from the tape for one lane: its bits are the coins.
 abbrev pub Draws : ℕ → List ℕ → List ℕ → Outside → Type 0
@@ -59,8 +55,7 @@ pub record DrawsNothing (o : Outside) : Type 0 where
 
 -- the entropy failed, and wants just the new bytes that the coins need, of which there are some
 pub record FailsToDraw (d : ℕ) (key : List ℕ) (o : Outside) : Type 0 where
-  pub rose : Rose o.faults_before o.faults_now
-  pub wanted : o.wanted ≡ bytes_for o.kept_before (split_bits d key)
+  pub wanted : o.wanted ≡ new_bytes o.kept_before (split_bits d key)
   pub some : 1 ≤ o.wanted
   pub nothing : DrawsNothing o
 
@@ -75,6 +70,15 @@ WritesPart d key words o = AppendsProperPrefix o.written_before o.written_now (k
 -- what each answer says
 abbrev pub Splits : ℕ → List ℕ → Outside → Result (Unit {0}) SplitError → Type 0
 Splits d key o (Ok done) = (words : List ℕ) × Draws d key words o × Writes d key words o
-Splits d key o (Err WriteFault) = (words : List ℕ) × Draws d key words o × WritesPart d key words o × Rose o.sink_faults_before o.sink_faults_now
+Splits d key o (Err WriteFault) = (words : List ℕ) × Draws d key words o × WritesPart d key words o
 Splits d key o (Err TapeFault) = FailsToDraw d key o
 Splits d key o (Err NoMemory) = DrawsNothing o
+
+-- the answer is that the entropy failed, or that the sink did
+abbrev pub failed_to_draw : Result (Unit {0}) SplitError → Bool
+failed_to_draw (Err TapeFault) = true
+failed_to_draw answer = false
+
+abbrev pub failed_to_write : Result (Unit {0}) SplitError → Bool
+failed_to_write (Err WriteFault) = true
+failed_to_write answer = false

@@ -1,12 +1,12 @@
 //! Reading key files.
 
 ghost use Rattle.std.specs.Prelude.{◌≡◌, ℕ, ◌<◌, ◌≤◌, false, List, length, take, IsTrue, IfOk, IfErr, OnErr, MatchOption, IfSome};
-ghost use Rattle.std.specs.Result.{is_ok};
+ghost use Rattle.std.specs.Result.{is_err};
 ghost use Rattle.std.specs.Io.KnownBytes.{Consumes, IsAtEnd};
-ghost use Rattle.mask_io.specs.Outside.{Rose, NeverFalls};
+ghost use Rattle.mask_io.specs.Outside.{faults_after};
 ghost use Rattle.mask_text.specs.Lines.{text_lines};
 ghost use Rattle.mask_keys.specs.Files.{spelled, is_in_form, wanted, fault, line_text, IsKeyFile, IsLength};
-ghost use Rattle.mask_keys.specs.Answers.{Reads, IsAnswerTo};
+ghost use Rattle.mask_keys.specs.Answers.{Reads, IsAnswerTo, failed_to_read};
 
 use crate::lines::{KeyBytes, KeyLines};
 use arrayvec::ArrayVec;
@@ -51,8 +51,7 @@ pub fn read_keys<K: Source>(
     requires length { IsLength length }
     ensures always { IfSome (K.left keys.old) (λ bytes. IsAnswerTo lines length bytes result) }
     ensures only { Reads lines length (K.left keys.old) (K.left keys.new) result }
-    ensures key_fault { result ≡ Err KeyError.KeyFault → Rose (K.faults keys.old) (K.faults keys.new) }
-    ensures never_falls { NeverFalls (K.faults keys.old) (K.faults keys.new) }
+    ensures counts { K.faults keys.new ≡ faults_after (failed_to_read result) (K.faults keys.old) }
 {
     let mut file = [0; ROOM];
     let came = match fill_from(keys, &mut file) {
@@ -72,8 +71,7 @@ fn fill_from<K: Source>(keys: &mut K, buf: &mut [u8]) -> Result<usize, Failed>
     ensures end { IfOk result (λ n. n < length buf.old → IsAtEnd (K.left keys.new)) }
     ensures part { OnErr result ((bytes : List ℕ) × Consumes (K.left keys.old) (K.left keys.new) bytes
         × (length bytes < length buf.old)) }
-    ensures rose { OnErr result (Rose (K.faults keys.old) (K.faults keys.new)) }
-    ensures never_falls { NeverFalls (K.faults keys.old) (K.faults keys.new) }
+    ensures counts { K.faults keys.new ≡ faults_after (is_err result) (K.faults keys.old) }
 {
     let mut came = 0;
     while came < buf.len() {

@@ -1,6 +1,8 @@
 //! Joining key lines.
 
-ghost use Rattle.std.specs.Prelude.{◌≡◌, ◌<◌, ℕ, List, fold, map, bit_xor, slice_index};
+ghost use Rattle.std.specs.Prelude.{◌≡◌, ℕ, ◌<◌, List, map, slice_index};
+ghost use Rattle.mask_circuit.specs.Ring.{words};
+ghost use Rattle.mask_circuit.specs.Sharing.{unmasked};
 ghost use Rattle.mask_keys.specs.Lines.{joined, line_length};
 
 use crate::lines::{KeyBytes, KeyLines};
@@ -19,7 +21,7 @@ pub fn join_key(lines: &KeyLines) -> KeyBytes
 
 fn joined_byte(lines: &KeyLines, b: usize) -> u8
     requires { b < line_length lines.now }
-    ensures { result ≡ fold bit_xor 0 (map (λ (line : List ℕ). slice_index line b) lines.now) }
+    ensures { result ≡ unmasked words (map (λ (line : List ℕ). slice_index line b) lines.now) }
 {
     let mut byte = 0;
     for i in 0..lines.count() {

@@ -2,14 +2,15 @@
 
 ghost use Rattle.std.specs.Prelude.{◌≡◌, ◌*◌, ◌≤◌, false, length, OnOk, OnErr, slice_index_or};
 ghost use Rattle.std.specs.Io.KnownBytes.{Appends};
+ghost use Rattle.std.specs.Result.{is_err};
 ghost use Rattle.mask_bits.specs.Lanes.{lane};
 ghost use Rattle.mask_bits.specs.Reading.{bit, lowest, low};
 ghost use Rattle.mask_circuit.specs.Ring.{bits};
 ghost use Rattle.mask_circuit.specs.Sharing.{shared};
-ghost use Rattle.mask_io.specs.Outside.{Rose, NeverFalls, AppendsProperPrefix};
-ghost use Rattle.mask_tape.specs.Tape.{bytes_for};
+ghost use Rattle.mask_io.specs.Outside.{faults_after, AppendsProperPrefix};
+ghost use Rattle.mask_tape.specs.Tape.{new_bytes};
 ghost use Rattle.mask_keys.specs.Files.{key_file};
-ghost use Rattle.mask_keys.specs.Splitting.{split_line, split_lines, split_bits, shares_at, Splits};
+ghost use Rattle.mask_keys.specs.Splitting.{split_line, split_lines, split_bits, shares_at, Splits, failed_to_draw, failed_to_write};
 
 use crate::files::line_text;
 use crate::lines::KeyBytes;
@@ -53,22 +54,18 @@ pub fn split_key<E: Entropy, O: Sink>(
           kept_now = tape.new;
           left_before = E.left entropy.old;
           left_now = E.left entropy.new;
-          faults_before = E.faults entropy.old;
-          faults_now = E.faults entropy.new;
           wanted = E.wanted entropy.new;
           written_before = O.written sink.old;
           written_now = O.written sink.new;
-          sink_faults_before = O.faults sink.old;
-          sink_faults_now = O.faults sink.new;
         }) result }
     ensures unwritten { result ≡ Err SplitError.TapeFault → sink.new ≡ sink.old }
     ensures idle { result ≡ Err SplitError.NoMemory → (sink.new ≡ sink.old) × (entropy.new ≡ entropy.old) }
-    ensures wants { OnOk result (E.wanted entropy.new ≡ E.wanted entropy.old) }
+    ensures wants { failed_to_draw result ≡ false → E.wanted entropy.new ≡ E.wanted entropy.old }
 
     // The tape keeps bits enough: the entropy isn't asked.
-    ensures unasked { bytes_for tape.old (split_bits order key.now) ≡ 0 → entropy.new ≡ entropy.old }
-    ensures never_falls { NeverFalls (E.faults entropy.old) (E.faults entropy.new) }
-    ensures sink_never_falls { NeverFalls (O.faults sink.old) (O.faults sink.new) }
+    ensures unasked { new_bytes tape.old (split_bits order key.now) ≡ 0 → entropy.new ≡ entropy.old }
+    ensures counts { E.faults entropy.new ≡ faults_after (failed_to_draw result) (E.faults entropy.old) }
+    ensures sink_counts { O.faults sink.new ≡ faults_after (failed_to_write result) (O.faults sink.old) }
 {
     let key = key.as_slice();
     let order = order as usize;
@@ -112,8 +109,7 @@ fn write_lines<O: Sink>(
         (key_file (split_lines order key.now coins.now))) }
     ensures part { OnErr result (AppendsProperPrefix (O.written sink.old) (O.written sink.new)
         (key_file (split_lines order key.now coins.now))) }
-    ensures rose { OnErr result (Rose (O.faults sink.old) (O.faults sink.new)) }
-    ensures never_falls { NeverFalls (O.faults sink.old) (O.faults sink.new) }
+    ensures counts { O.faults sink.new ≡ faults_after (is_err result) (O.faults sink.old) }
 {
     for k in 0..order + 1 {
         let text = line_text(&line_at(key, order, coins, k));

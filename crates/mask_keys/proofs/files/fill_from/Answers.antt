@@ -1,4 +1,4 @@
-use Rattle.std.proofs.Common.{◌-◌, length, sym, subst, arith}
+use Rattle.std.proofs.Common.{◌-◌, length, sym, subst, ◌∙◌}
 use Rattle.std.specs.Io.KnownBytes.{Consumes}
 use Rattle.std.proofs.KnownBytes.{Consumes-trans}
 use Rattle.mask_keys.proofs.Filling.{came_more, came_room}
@@ -7,8 +7,6 @@ use Rattle.mask_keys.proofs.files.fill_from.Goals as goal
 pub loop-came-preserved : goal.loop-came-preserved
 loop-came-preserved g c =
     let gave = c.in-Ok.ensures.ok in
-    let later = c.in-Ok.ensures.never_falls in
-    let before = c.loop-came.invariant.never_falls in
     let room = came_room c.loop-came.came c.in-Ok.count c.loop-came.buf c.read.new.buf c.loop-came.invariant.bound c.read.auto.buf gave.bound in
     record {
       bound = room.1;
@@ -16,5 +14,5 @@ loop-came-preserved g c =
           (sym (came_more c.loop-came.came c.in-Ok.count (length c.loop-came.buf - c.loop-came.came) c.loop-came.buf c.read.new.buf
           c.loop-came.invariant.bound room.0))
           (Consumes-trans _ _ _ _ _ c.loop-came.invariant.taken gave.taken);
-      never_falls = omega arith;
+      counts = c.in-Ok.ensures.counts ∙ c.loop-came.invariant.counts;
     }

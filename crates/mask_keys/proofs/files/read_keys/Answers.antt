@@ -1,6 +1,7 @@
-use Rattle.std.proofs.Common.{◌<◌, take, arith, length-take}
+use Rattle.std.proofs.Common.{◌<◌, Bool, take, ap, sym, ◌∙◌, arith, length-take}
+use Rattle.mask_io.specs.Outside.{faults_after}
 use Rattle.mask_keys.specs.Answers.{Whole}
-use Rattle.mask_keys.proofs.Answering.{decides, answers_both, answers-no_key_fault}
+use Rattle.mask_keys.proofs.Answering.{decides, answers_both, answers-unfailed}
 use Rattle.mask_keys.proofs.files.read_keys.Goals as goal
 
 pub returns-clause-always : goal.returns-clause-always
@@ -14,6 +15,7 @@ returns-clause-always g c =
           (answers_both c.args.lines c.args.length (take c.in-Ok.came c.fill_from.new.buf) c.lines_in.result c.lines_in.ensures.lines c.lines_in.ensures.bad),
     )
 
-pub returns-clause-key_fault : goal.returns-clause-key_fault
-returns-clause-key_fault g c = λ e.
-    absurd (answers-no_key_fault c.args.lines c.args.length (take c.in-Ok.came c.fill_from.new.buf) c.lines_in.result c.lines_in.ensures.bad e)
+pub returns-clause-counts : goal.returns-clause-counts
+returns-clause-counts g c =
+    let unfailed = answers-unfailed c.args.lines c.args.length (take c.in-Ok.came c.fill_from.new.buf) c.lines_in.result c.lines_in.ensures.bad in
+    c.in-Ok.ensures.counts ∙ ap (λ (t : Bool). faults_after t (g.K.Source.faults c.args.keys.now)) (sym unfailed)

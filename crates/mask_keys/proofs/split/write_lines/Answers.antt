@@ -6,14 +6,12 @@ use Rattle.mask_keys.proofs.split.write_lines.Goals as goal
 
 pub loop-k-preserved : goal.loop-k-preserved
 loop-k-preserved g c =
-    let later = c.in-Ok.ensures.never_falls in
-    let before = c.loop-k.invariant.never_falls in
     record {
       sent = line-sent (split_lines c.args.order c.args.key.now c.args.coins.now) c.loop-k.k c.line_at.result
           (omega (arith, length-split_lines c.args.order c.args.key.now c.args.coins.now))
           (c.line_at.ensures ∙ sym (get_or-split_lines c.args.order c.args.key.now c.args.coins.now c.loop-k.k (omega arith)))
           _ _ _ c.as_slice.result.now _ (c.as_slice.ensures.value ∙ c.line_text-text.ensures) c.loop-k.invariant.sent c.in-Ok.ensures.whole;
-      never_falls = omega arith;
+      counts = c.in-Ok.ensures.counts ∙ c.loop-k.invariant.counts;
     }
 
 pub returns-in-Err-clause-part : goal.returns-in-Err-clause-part

@@ -1,4 +1,4 @@
-use Rattle.std.proofs.Common.{◌≤◌, drop}
+use Rattle.std.proofs.Common.{◌≡◌, drop}
 use Rattle.mask_text.proofs.Sends.{Sent}
 use Rattle.mask_keys.specs.Files.{key_file}
 use Rattle.mask_keys.specs.Splitting.{split_lines}
@@ -8,5 +8,5 @@ abbrev pub invariant-loop-k : goal.invariant-loop-k
 invariant-loop-k g l = record {
   sent : Sent (g.O.Sink.written l.initial.sink) (g.O.Sink.written l.sink) (key_file (drop l.k (split_lines l.order l.key l.coins)))
       (key_file (split_lines l.order l.key l.coins));
-  never_falls : g.O.Sink.faults l.initial.sink ≤ g.O.Sink.faults l.sink;
+  counts : g.O.Sink.faults l.sink ≡ g.O.Sink.faults l.initial.sink;
 }
