@@ -1,5 +1,5 @@
 -- What an answer says of a source that tells its bytes decides which answer comes.
-use Rattle.std.proofs.Common.{◌≡◌, ℕ, ◌<◌, ◌≤◌, ◌==◌, Bool, true, false, cond, inl, inr, List, length, Option, Some, None, Result, Ok, Err, IfSome, IfOk, IfErr, refl, sym, ap, ◌∙◌, subst, arith}
+use Rattle.std.proofs.Common.{◌≡◌, ℕ, ◌≤◌, ◌==◌, Bool, true, false, cond, inl, inr, List, length, Option, Some, None, Result, Ok, Err, IfSome, IfOk, IfErr, refl, sym, ap, ◌∙◌, subst, arith}
 use Rattle.std.specs.Io.KnownBytes.{Consumes}
 use Rattle.mask_text.specs.Lines.{text_lines}
 use Rattle.mask_text.proofs.Sources.{gave_all, gave_some}
@@ -7,7 +7,7 @@ use Rattle.mask_keys.specs.declared.files.KeyLength.{KeyLength}
 use Rattle.mask_keys.specs.declared.files.KeyError.{KeyError}
 use Rattle.mask_keys.specs.declared.files.KeyError.TheVariants.{KeyFault, Long, Line, Count}
 use Rattle.mask_keys.specs.Files.{IsKeyFile, fault, fault_of, first_bad}
-use Rattle.mask_keys.specs.Answers.{Answers, Came, Whole, TooMany, Broken, Reads, IsUnlessFailed, IsAnswerTo, failed_to_read}
+use Rattle.mask_keys.specs.Answers.{Answers, Came, Whole, TooMany, Broken, Reads, IsAnswerTo, failed_to_read}
 use Rattle.mask_keys.proofs.Deciding.{stands_once, no_fault}
 
 module _ (count : ℕ) (asked : KeyLength) (bytes : List ℕ) where

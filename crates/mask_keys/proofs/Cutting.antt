@@ -3,7 +3,7 @@ use Rattle.std.proofs.Common.{◌≡◌, ℕ, zero, suc, ◌+◌, ◌*◌, ◌<�
 use Rattle.std.proofs.Math.Nat.{mul-le-mul_right}
 use Rattle.std.specs.List.{All, concat}
 use Rattle.std.proofs.lemmas.List.{take_at, drop_at, drop-drop, length-take-le}
-use Rattle.mask_keys.specs.Lines.{AreKeyLines, line_length, lines_of}
+use Rattle.mask_keys.specs.Lines.{AreKeyLines, lines_of}
 
 pub length-lines_of : (count n : ℕ) (bytes : List ℕ) → length (lines_of count n bytes) ≡ count
 length-lines_of zero n bytes = refl

@@ -1,19 +1,18 @@
 -- A key file stands for one list of lines, or has a first fault.
-use Rattle.std.proofs.Common.{◌≡◌, ℕ, zero, suc, ◌+◌, ◌*◌, ◌/◌, ◌<◌, ◌≤◌, ◌⊎◌, inl, inr, ◌==◌, Bool, true, false, not, ◌&&◌, nat_le, nat_lt, cond, Result, Ok, Err, Some, None, Option, List, [], ◌∷◌, map, length, get_or, refl, sym, ap, ap₂, ◌∙◌, subst, arith, eq-eqb, eqb-true}
+use Rattle.std.proofs.Common.{◌≡◌, ℕ, zero, suc, ◌*◌, ◌<◌, ◌≤◌, ◌⊎◌, inl, inr, ◌==◌, Bool, true, false, not, ◌&&◌, nat_le, nat_lt, cond, Result, Ok, Err, Some, None, Option, List, [], ◌∷◌, map, length, get_or, refl, sym, ap, ap₂, ◌∙◌, subst, arith, eq-eqb, eqb-true}
 use Rattle.std.specs.Result.{is_ok, result_unwrap_or}
 use Rattle.std.specs.List.{All, position, position_or_len}
-use Rattle.std.proofs.lemmas.Bool.{and_parts, le-leb, ltb-false, not-false, cases_eq}
-use Rattle.std.proofs.lemmas.List.{length-map, get_or-map}
+use Rattle.std.proofs.lemmas.Bool.{and_parts, le-leb, ltb-false, not-false}
+use Rattle.std.proofs.lemmas.List.{length-map}
 use Rattle.std.proofs.lemmas.List.Sums.{fails_before_first}
-use Rattle.hex.specs.Hex.{decode_sized}
 use Rattle.hex.specs.declared.error.FromHexError.{FromHexError}
 use Rattle.hex.proofs.HexLemmas.{decode_sized-ok, decode_sized-twice, decode_of-ok}
 use Rattle.mask_text.specs.Lines.{text_lines, bare}
 use Rattle.mask_keys.specs.declared.files.KeyLength.{KeyLength}
 use Rattle.mask_keys.specs.declared.files.KeyLength.TheVariants.{Exactly, Any}
 use Rattle.mask_keys.specs.declared.files.KeyError.{KeyError}
-use Rattle.mask_keys.specs.declared.files.KeyError.TheVariants.{Line, Count}
-use Rattle.mask_keys.specs.Lines.{AreKeyLines, line_length}
+use Rattle.mask_keys.specs.declared.files.KeyError.TheVariants.{Count}
+use Rattle.mask_keys.specs.Lines.{line_length}
 use Rattle.mask_keys.specs.Files.{spelled, is_in_form, wanted, first_bad, fault, fault_of, IsAsked, IsKeyFile}
 use Rattle.mask_keys.specs.Laws.{StandsForOne, IsFaulty, KeyFileOrFault}
 use Rattle.mask_keys.proofs.Finding.{position-none, form_bounds, is_asked}
@@ -61,7 +60,6 @@ spells-at n (line ∷ lines) (key ∷ ks) e (suc k) d lt =
 
 -- KEY FILES
 
-
 -- as many lines as keys
 many : (count : ℕ) (asked : KeyLength) (bytes : List ℕ) (lines : List (List ℕ)) → IsKeyFile count asked bytes lines → length (text_lines bytes) ≡ length lines
 many count asked bytes lines file =
@@ -91,10 +89,10 @@ no_fault count asked bytes lines file =
     let same = wanted-is count asked bytes lines file in
     let form : (k : ℕ) (d : List ℕ) → k < length (text_lines bytes) → not (is_in_form (line_length lines) (get_or (text_lines bytes) k d)) ≡ false
     = λ k d lt.
-        let low = le-leb 1 (line_length lines) file.shape.filled in
-        let high = le-leb (line_length lines) 64 file.shape.short in
-        let ok = ap is_ok (spells-at (line_length lines) (text_lines bytes) lines file.spells k d lt) in
-        rw (low, high, ok) refl
+    let low = le-leb 1 (line_length lines) file.shape.filled in
+    let high = le-leb (line_length lines) 64 file.shape.short in
+    let ok = ap is_ok (spells-at (line_length lines) (text_lines bytes) lines file.spells k d lt) in
+    rw (low, high, ok) refl
     in
     let none : first_bad asked (text_lines bytes) ≡ None =
     ap (λ (m : ℕ). position (λ (l : List ℕ). not (is_in_form m l)) (text_lines bytes)) same

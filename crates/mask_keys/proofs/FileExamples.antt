@@ -1,5 +1,5 @@
 -- Key files at worked examples, computed.
-use Rattle.std.proofs.Common.{◌≡◌, Some, None, [], ◌∷◌, ◌++◌, replicate, refl, map, Ok, flat_map}
+use Rattle.std.proofs.Common.{◌≡◌, Some, None, [], ◌∷◌, replicate, refl, map, Ok}
 use Rattle.std.specs.Prelude.{codes}
 use Rattle.hex.specs.Hex.{decode_pairs, encode_with}
 use Rattle.mask_text.specs.Lines.{text_lines, split_at, bare}

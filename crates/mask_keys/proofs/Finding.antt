@@ -1,5 +1,5 @@
 -- Lines that are found in a key file one by one.
-use Rattle.std.proofs.Common.{◌≡◌, ℕ, suc, ◌+◌, ◌*◌, ◌<◌, ◌≤◌, ◌==◌, Bool, true, false, not, ◌&&◌, nat_le, nat_lt, cond, Result, Ok, Err, Some, None, Option, List, [], ◌∷◌, ◌++◌, map, length, get_or, refl, sym, ap, ap₂, ◌∙◌, subst, arith, append_assoc, append-nil, length-append, ne_eqb}
+use Rattle.std.proofs.Common.{◌≡◌, ℕ, suc, ◌+◌, ◌*◌, ◌<◌, ◌≤◌, Bool, true, false, not, ◌&&◌, nat_le, nat_lt, cond, Result, Ok, Err, Some, None, Option, List, [], ◌∷◌, ◌++◌, map, length, get_or, refl, sym, ap, ap₂, ◌∙◌, subst, arith, append_assoc, append-nil, length-append, ne_eqb}
 use Rattle.std.specs.Result.{is_ok, IsOk, OnOk}
 use Rattle.std.specs.List.{All, concat, position, position_or_len}
 use Rattle.std.proofs.lemmas.Bool.{and_parts, lt-ltb, leb-true}
@@ -15,9 +15,8 @@ use Rattle.hex.specs.declared.error.FromHexError.{FromHexError}
 use Rattle.mask_text.specs.Lines.{text_lines}
 use Rattle.mask_keys.specs.declared.files.KeyLength.{KeyLength}
 use Rattle.mask_keys.specs.declared.files.KeyLength.TheVariants.{Exactly, Any}
-use Rattle.mask_keys.specs.declared.files.KeyError.{KeyError}
 use Rattle.mask_keys.specs.declared.files.KeyError.TheVariants.{Line, Count}
-use Rattle.mask_keys.specs.Lines.{AreKeyLines, line_length, lines_of}
+use Rattle.mask_keys.specs.Lines.{line_length, lines_of}
 use Rattle.mask_keys.specs.Files.{spelled, is_in_form, wanted, first_bad, fault, fault_of, IsAsked, IsKeyFile}
 use Rattle.mask_keys.proofs.Cutting.{lines_of-concat}
 

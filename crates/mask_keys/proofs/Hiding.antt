@@ -1,5 +1,5 @@
 -- Fewer lines of a split than there are show nothing of the key.
-use Rattle.std.proofs.Common.{◌≡◌, ℕ, suc, ◌+◌, ◌*◌, ◌<◌, ◌≤◌, ◌==◌, nat_lt, Bool, true, false, cond, List, [], map, length, get_or, Contains, refl, sym, ap, ap₂, ◌∙◌, arith, eq-eqb, eqb-true}
+use Rattle.std.proofs.Common.{◌≡◌, ℕ, suc, ◌*◌, ◌<◌, ◌==◌, nat_lt, Bool, true, false, cond, List, [], map, length, get_or, Contains, refl, sym, ap, ◌∙◌, arith, eq-eqb, eqb-true}
 use Rattle.std.specs.List.{list_any}
 use Rattle.std.proofs.lemmas.Bool.{ltb-true, ltb-false}
 use Rattle.std.proofs.lemmas.List.{ext_get_or, get_or-map, get_or_past, length-map}
@@ -7,7 +7,7 @@ use Rattle.std.proofs.lemmas.List.Folds.{list_any_at}
 use Rattle.mask_bits.specs.Reading.{low}
 use Rattle.mask_bits.proofs.Bytes.{length-low}
 use Rattle.mask_circuit.specs.Ring.{bits}
-use Rattle.mask_circuit.specs.Sharing.{listed, all_listed, all_shared}
+use Rattle.mask_circuit.specs.Sharing.{listed, all_shared}
 use Rattle.mask_circuit.specs.Wires.{Shares, each}
 use Rattle.mask_circuit.specs.Probing.{sum_over_tapes}
 use Rattle.mask_circuit.specs.Privacy.{sharing, sum_over_sharings}

@@ -1,5 +1,5 @@
 -- The lines of a split are key lines, and their exclusive or is the key.
-use Rattle.std.proofs.Common.{◌≡◌, ℕ, zero, suc, ◌+◌, ◌*◌, ◌%◌, ◌^◌, ◌<◌, ◌≤◌, Bool, true, false, nat_eq, List, [], ◌∷◌, ◌++◌, map, fold, length, take, drop, get_or, bit_xor, refl, sym, ap, ap₂, ◌∙◌, subst, arith, length-drop, length-take, lit<}
+use Rattle.std.proofs.Common.{◌≡◌, ℕ, zero, suc, ◌+◌, ◌*◌, ◌%◌, ◌^◌, ◌<◌, ◌≤◌, Bool, false, nat_eq, List, [], ◌∷◌, ◌++◌, map, fold, length, take, drop, get_or, bit_xor, refl, sym, ap, ap₂, ◌∙◌, subst, arith, length-drop, length-take, lit<}
 use Rattle.std.specs.List.{All}
 use Rattle.std.specs.Int.{bit_at}
 use Rattle.std.proofs.lemmas.List.{get_or-take, get_or-drop, length-take-le, ext_get_or, map-append, length-map, get_or-map, drop-drop}
@@ -18,11 +18,11 @@ use Rattle.mask_shares.proofs.Lists.{length-each, get_or-each, each-same, is_eac
 use Rattle.mask_laws.proofs.BitSums.{fold-xor}
 use Rattle.mask_laws.proofs.Bits.{xor-false, xor_self, xor_assoc}
 use Rattle.mask_laws.proofs.CircuitNames.{All-each}
-use Rattle.mask_keys.specs.Lines.{AreKeyLines, line_length, joined}
+use Rattle.mask_keys.specs.Lines.{line_length, joined}
 use Rattle.mask_keys.specs.Splitting.{packed, shares_at, split_line, split_lines, split_bits}
-use Rattle.mask_keys.specs.Laws.{AreBytes, IsKey, AreSharesOf, SplitsJoin}
+use Rattle.mask_keys.specs.Laws.{AreBytes, SplitsJoin}
 use Rattle.mask_keys.proofs.Cutting.{line_end}
-use Rattle.mask_keys.proofs.Sharing.{length-shares_at, get_or-shares_at, length-split_lines, get_or-split_lines}
+use Rattle.mask_keys.proofs.Sharing.{get_or-shares_at, length-split_lines, get_or-split_lines}
 
 -- THE BITS OF AN EXCLUSIVE OR
 

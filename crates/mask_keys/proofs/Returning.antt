@@ -1,5 +1,5 @@
 -- What is written of key lines reads back as these lines.
-use Rattle.std.proofs.Common.{◌≡◌, ℕ, zero, suc, ◌+◌, ◌-◌, ◌*◌, ◌/◌, ◌%◌, ◌^◌, ◌<◌, ◌≤◌, ◌==◌, inl, inr, eqb, Bool, true, false, not, cond, Result, Ok, List, [], ◌∷◌, ◌++◌, map, flat_map, length, get_or, take, refl, sym, ap, ap₂, ◌∙◌, subst, arith, length-append, append_assoc, lit<}
+use Rattle.std.proofs.Common.{◌≡◌, ℕ, suc, ◌+◌, ◌-◌, ◌*◌, ◌/◌, ◌%◌, ◌<◌, ◌≤◌, inl, inr, eqb, Bool, true, false, not, cond, Result, Ok, List, [], ◌∷◌, map, flat_map, length, get_or, take, refl, sym, ap, ap₂, ◌∙◌, subst, arith, length-append, append_assoc, lit<}
 use Rattle.std.specs.List.{All, list_all}
 use Rattle.std.proofs.lemmas.Bool.{cases_lt, not-true}
 use Rattle.std.proofs.lemmas.List.{get_or_past}
@@ -11,10 +11,9 @@ use Rattle.hex.specs.declared.error.FromHexError.{FromHexError}
 use Rattle.hex.proofs.HexLemmas.{length-encode_with, decode_of-encode_lower, decode_sized-twice}
 use Rattle.mask_text.specs.Lines.{text_lines, bare}
 use Rattle.mask_text.proofs.Pieces.{lines_at, no_lines}
-use Rattle.mask_keys.specs.declared.files.KeyLength.TheVariants.{Exactly, Any}
-use Rattle.mask_keys.specs.Lines.{AreKeyLines, line_length}
-use Rattle.mask_keys.specs.Files.{spelled, line_text, key_file, IsKeyFile}
-use Rattle.mask_keys.specs.Laws.{AreBytes, ReadsBack, KeyFileReadsBack}
+use Rattle.mask_keys.specs.Lines.{line_length}
+use Rattle.mask_keys.specs.Files.{spelled, line_text, key_file}
+use Rattle.mask_keys.specs.Laws.{AreBytes, KeyFileReadsBack}
 
 -- a byte that is no lower-case digit: the line feed and the carriage return are two
 record IsNoDigit (b : ℕ) : Type 0 where

@@ -1,6 +1,6 @@
 -- Shares of bits one by one, and the bytes that they make.
-use Rattle.std.proofs.Common.{◌≡◌, ℕ, zero, suc, ◌+◌, ◌-◌, ◌*◌, ◌%◌, ◌^◌, ◌<◌, ◌≤◌, Bool, true, false, List, [], ◌∷◌, ◌++◌, map, length, take, drop, get_or, refl, sym, ap, ap₂, ◌∙◌, arith, append-nil, length-append, length-drop, if◌then◌else◌}
-use Rattle.std.proofs.lemmas.List.{get_or-map, take-map, drop-map, drop-drop, length-map, length-take-le, take_at, drop_at, take-append-le, take_all}
+use Rattle.std.proofs.Common.{◌≡◌, ℕ, zero, suc, ◌+◌, ◌*◌, ◌%◌, ◌^◌, ◌<◌, ◌≤◌, Bool, true, false, List, [], ◌∷◌, ◌++◌, map, length, take, drop, get_or, refl, sym, ap, ap₂, ◌∙◌, arith, append-nil, length-drop, if◌then◌else◌}
+use Rattle.std.proofs.lemmas.List.{get_or-map, take-map, drop-map, drop-drop, length-map, length-take-le, take_at, drop_at, take_all}
 use Rattle.std.proofs.lemmas.Option.{get_or_from_slice_get}
 use Rattle.std.proofs.Math.Nat.{mod-eq_of_lt}
 use mir.Val.{bool_byte}

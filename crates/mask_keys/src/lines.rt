@@ -75,11 +75,7 @@ impl KeyLines {
         requires whole { length bytes.items ≡ count * size }
         ensures { result ≡ lines_of count size bytes.items }
     {
-        KeyLines {
-            bytes,
-            count,
-            size,
-        }
+        KeyLines { bytes, count, size }
     }
 
     /// Cuts the bytes, in order, into this many lines of one length.

@@ -1,5 +1,4 @@
-use Rattle.std.proofs.Common.{◌≡◌, ◌≤◌, ◌+◌, ◌++◌, List, ℕ, length, sym, ap, ◌∙◌, subst, arith}
-use Rattle.std.specs.Result.{OnOk, IsOk}
+use Rattle.std.proofs.Common.{◌++◌, List, ℕ, length, sym, ap, ◌∙◌, subst, arith}
 use Rattle.mask_keys.specs.Files.{IsKeyFile}
 use Rattle.mask_keys.proofs.Finding.{found_none, found_more, bad_line, other_count, bounds, whole, found_file, on_ok}
 use Rattle.mask_keys.proofs.files.lines_in.Goals as goal

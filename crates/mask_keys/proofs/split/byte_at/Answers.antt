@@ -1,4 +1,4 @@
-use Rattle.std.proofs.Common.{◌≡◌, ℕ, ◌+◌, ◌*◌, ◌%◌, ◌^◌, ◌<◌, take, arith, ap, ◌∙◌}
+use Rattle.std.proofs.Common.{◌≡◌, ◌+◌, ◌*◌, ◌%◌, ◌^◌, ◌<◌, take, arith, ap, ◌∙◌}
 use Rattle.mask_bits.specs.Reading.{bit, lowest, number}
 use Rattle.mask_keys.specs.Splitting.{shares_at}
 use Rattle.mask_keys.proofs.Sharing.{byte_grows, byte_done, coins_left, coins_next}

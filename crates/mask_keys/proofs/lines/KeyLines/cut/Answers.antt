@@ -1,4 +1,4 @@
-use Rattle.std.proofs.Common.{◌≡◌, ℕ, ◌/◌, ◌*◌, List, length, subst, sym, ap, ◌∙◌, rules}
+use Rattle.std.proofs.Common.{◌≡◌, length, subst, sym, ap, ◌∙◌, rules}
 use Rattle.std.specs.List.{concat}
 use Rattle.mask_keys.specs.Lines.{AreKeyLines}
 use Rattle.mask_keys.proofs.Cutting.{length-lines_of, concat-lines_of, are_key_lines}

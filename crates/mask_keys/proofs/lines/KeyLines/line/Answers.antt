@@ -1,5 +1,5 @@
 use Rattle.std.proofs.Common.{◌≡◌, ◌<◌, ℕ, ◌+◌, ◌-◌, ◌*◌, List, [], length, take, drop, get_or, sym, ap, ◌∙◌, arith}
-use Rattle.mask_keys.specs.Lines.{line_length, lines_of}
+use Rattle.mask_keys.specs.Lines.{line_length}
 use Rattle.mask_keys.proofs.Cutting.{length-lines_of, get_or-lines_of, length-line, line_end}
 use Rattle.mask_keys.proofs.lines.KeyLines.line.Goals as goal
 
