@@ -1,0 +1,6 @@
+pub mod Calls
+pub mod Drawing
+pub mod Laws
+pub mod Privacy
+pub mod Steps
+pub mod Traces

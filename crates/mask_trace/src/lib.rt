@@ -1,0 +1,4 @@
+//! What a run is, as data, and what is proved of every run.
+#![tactic(auto)]
+
+pub mod laws;
