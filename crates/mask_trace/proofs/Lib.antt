@@ -1,1 +1,3 @@
 mod TraceExamples
+pub mod Traces
+pub mod Drawing

@@ -1,15 +1,12 @@
 -- What is proved of every run of steps.
-use Rattle.std.specs.Prelude.{◌≡◌, ℕ, suc, pred, ◌+◌, ◌*◌, ◌<◌, ◌≤◌, Bool, List, [], ◌∷◌, ◌++◌, map, length, take, drop, All}
-use Rattle.mask_bits.specs.Lanes.{lane}
-use Rattle.mask_circuit.specs.Netlist.{Netlist}
-use Rattle.mask_circuit.specs.Ring.{words}
-use Rattle.mask_circuit.specs.Wires.{each, Shares}
-use Rattle.mask_circuit.specs.Expansion.{draws, outs}
-use Rattle.mask_circuit.specs.Sharing.{all_listed}
+use Rattle.std.specs.Prelude.{◌≡◌, ℕ, ◌+◌, ◌*◌, ◌<◌, ◌≤◌, Bool, List, [], ◌++◌, length, take, drop}
+use Rattle.mask_bits.specs.Reading.{low}
+use Rattle.mask_tape.specs.Tape.{IsDrawn}
 use Rattle.mask_laws.specs.Runs.{IsStrongRun}
+use Rattle.mask_eval.specs.Watching.{told_more}
 use Rattle.mask_trace.specs.Steps.{Registers, Step, IsStrongPlan, bits_of}
 use Rattle.mask_trace.specs.Traces.{BitShares, after, trace}
-use Rattle.mask_trace.specs.Drawing.{Stand, Ran, RanPart}
+use Rattle.mask_trace.specs.Drawing.{Stand, Drew, Ran, RanPart}
 use Rattle.mask_trace.specs.Calls.{calls_of}
 use Rattle.mask_trace.specs.Privacy.{IsPrivateTrace}
 
@@ -29,12 +26,34 @@ pub record TapeIsEnough : Type 0 where
   pub after : (N : ℕ) (have : Registers BitShares) (ss : List Step) (r more : List Bool) → bits_of N ss ≤ length r →
       after N have ss (r ++ more) ≡ after N have ss r
 
--- What was evaluated in two parts, one behind the other, was evaluated. The second may have stopped.
+-- A run goes on: what was evaluated in two parts, one behind the other, was evaluated, and either part may have stopped. A
+-- run of no step does nothing.
 pub record RunsJoin : Type 0 where
+  pub none : (N : ℕ) (have : Registers BitShares) (a : Stand) → length a.kept < 8 → Ran N have [] have a a
   pub all : (N : ℕ) (have now after : Registers BitShares) (ss ts : List Step) (a b c : Stand) →
       Ran N have ss now a b → Ran N now ts after b c → Ran N have (ss ++ ts) after a c
   pub part : (N : ℕ) (have now : Registers BitShares) (ss ts : List Step) (count : ℕ) (a b c : Stand) →
       Ran N have ss now a b → RanPart N now ts count b c → RanPart N have (ss ++ ts) (length ss + count) a c
+  pub stops : (N : ℕ) (have : Registers BitShares) (ss ts : List Step) (count : ℕ) (a b : Stand) →
+      RanPart N have ss count a b → RanPart N have (ss ++ ts) count a b
+  pub whole : (N : ℕ) (have now : Registers BitShares) (ss : List Step) (a b : Stand) →
+      Ran N have ss now a b → RanPart N have ss (length ss) a b
+
+-- What was drawn in two parts, one behind the other, was drawn. Behind it fewer than eight bits are kept, whatever was
+-- kept before.
+pub record DrawsJoin : Type 0 where
+  pub both : (m n : ℕ) (f g : List ℕ) (a b c : Stand) → Drew m f a b → Drew n g b c → Drew (m + n) (f ++ g) a c
+  pub few : (n : ℕ) (f : List ℕ) (a b : Stand) → Drew n f a b → length b.kept < 8
+
+-- What a run told is the beginning of what all its steps tell, however the tape goes on.
+abbrev pub PartsAreBeginnings : Type 0
+PartsAreBeginnings = (N : ℕ) (have : Registers BitShares) (ss : List Step) (count : ℕ) (a b : Stand) → (part : RanPart N have ss count a b) →
+    (more : List Bool) → b.told ≡ told_more a.told (take count (trace N have ss (a.kept ++ low part.ran.fresh ++ more)))
+
+-- What a tape gives where it kept fewer than eight bits is drawn: the bits of all lanes.
+abbrev pub DrawnIsDrew : Type 0
+DrawnIsDrew = (a b : Stand) (lanes bits : ℕ) (words : List ℕ) → length a.kept < 8 →
+    (drawn : IsDrawn a.kept b.kept a.left b.left lanes bits words) → Drew (lanes * bits) drawn.fresh a b
 
 -- A strong plan is a strong run in the probing model ..
 abbrev pub PlansAreStrongRuns : Type 0
