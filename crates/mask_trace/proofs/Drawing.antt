@@ -1,14 +1,14 @@
 -- What is drawn and told in two parts, and what a tape's own contract says of it.
-use Rattle.std.proofs.Common.{◌≡◌, ℕ, ◌+◌, ◌-◌, ◌*◌, ◌/◌, ◌<◌, ◌≤◌, Bool, List, [], ◌∷◌, ◌++◌, length, take, drop, Some, None, refl, ap, ap₂, sym, subst, ◌∙◌, arith, append_assoc, length-append, length-drop}
+use Rattle.std.proofs.Common.{◌≡◌, ℕ, zero, suc, ◌+◌, ◌-◌, ◌*◌, ◌/◌, ◌<◌, ◌≤◌, Bool, List, [], ◌∷◌, ◌++◌, length, take, drop, Some, None, refl, ap, ap₂, sym, subst, ◌∙◌, arith, append_assoc, length-append, length-drop}
 use Rattle.std.specs.declared.option.Option.{Option}
-use Rattle.std.proofs.Io.KnownBytes.{Consumes-nil, Consumes-trans}
+use Rattle.std.proofs.KnownBytes.{Consumes-nil, Consumes-trans}
 use Rattle.std.proofs.lemmas.List.{append-nil, drop-append-le, drop-drop, take-append-le, take_all, length-take-le}
 use Rattle.mask_bits.specs.Reading.{low}
 use Rattle.mask_bits.proofs.Bytes.{low-append, length-low}
 use Rattle.mask_tape.specs.Tape.{bytes_for, IsDrawn}
 use Rattle.mask_eval.specs.Watching.{Told, told_more}
-use Rattle.mask_trace.specs.Steps.{Registers, Step, bits_of}
-use Rattle.mask_trace.specs.Traces.{BitShares, after, trace}
+use Rattle.mask_trace.specs.Steps.{Registers, Step, stretch, bits_of}
+use Rattle.mask_trace.specs.Traces.{BitShares, evaluation, after_step, after, trace}
 use Rattle.mask_trace.specs.Drawing.{Stand, Drew, Ran, RanPart}
 use Rattle.mask_trace.specs.Laws.{RunsJoin, DrawsJoin, PartsAreBeginnings, DrawnIsDrew}
 use Rattle.mask_trace.proofs.Traces.{traces_split, tape_is_enough}
@@ -128,9 +128,8 @@ all N have now later ss ts a b c first second =
 take-more : (ss ts : List Step) (n : ℕ) → take (length ss + n) (ss ++ ts) ≡ ss ++ take n ts
 take-more [] ts n = let e : 0 + n ≡ n = omega arith in ap (λ (k : ℕ). take k ts) e
 take-more (s ∷ ss) ts n =
-    let e : length (s ∷ ss) + n ≡ (length ss + n) + 1 = omega arith in
-    let more : (length ss + n) + 1 ≡ length (s ∷ ss) + n = omega arith in
-    ?
+    let one : suc (length ss) + n ≡ suc (length ss + n) = omega arith in
+    ap (λ (k : ℕ). take k (s ∷ (ss ++ ts))) one ∙ ap (λ (more : List Step). s ∷ more) (take-more ss ts n)
 
 pub runs_join : RunsJoin
 runs_join = record {
@@ -162,7 +161,11 @@ runs_join = record {
 
 -- the first evaluations are those of the first steps
 trace-first : (N : ℕ) (have : Registers BitShares) (ss : List Step) (n : ℕ) (r : List Bool) → take n (trace N have ss r) ≡ trace N have (take n ss) r
-trace-first N have ss n r = ?
+unfolding trace
+trace-first N have ss zero r = refl
+trace-first N have [] (suc n) r = refl
+trace-first N have (s ∷ ss) (suc n) r =
+    ap (λ (told : List Told). evaluation N have s r ∷ told) (trace-first N (after_step N have s r) ss n (drop (stretch N s) r))
 
 pub parts_are_beginnings : PartsAreBeginnings
 parts_are_beginnings N have ss count a b part more =

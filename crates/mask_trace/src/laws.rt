@@ -26,13 +26,11 @@ pub fn draws_join()
 {}
 
 /// What a run told before it stopped is the beginning of what all its steps tell, however the tape goes on.
-#[tactic(auto, using(crate::proofs::Drawing::parts_are_beginnings))]
 pub fn parts_are_beginnings()
     ensures { PartsAreBeginnings }
 {}
 
 /// What a tape gives is drawn: the bits of all lanes.
-#[tactic(auto, using(crate::proofs::Drawing::drawn_is_drew))]
 pub fn drawn_is_drew()
     ensures { DrawnIsDrew }
 {}
