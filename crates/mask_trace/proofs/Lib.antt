@@ -1,3 +1,5 @@
 mod TraceExamples
 pub mod Traces
 pub mod Drawing
+pub mod SideBySide
+pub mod Inputs
