@@ -3,3 +3,4 @@ pub mod Traces
 pub mod Drawing
 pub mod SideBySide
 pub mod Inputs
+pub mod StrongRuns

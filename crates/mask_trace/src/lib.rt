@@ -3,3 +3,4 @@
 
 pub mod lanes;
 pub mod laws;
+pub mod privacy;
