@@ -4,3 +4,5 @@ pub mod Drawing
 pub mod SideBySide
 pub mod Inputs
 pub mod StrongRuns
+pub mod SameWires
+pub mod RunWires

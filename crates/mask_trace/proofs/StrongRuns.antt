@@ -176,6 +176,14 @@ Behind none keeps m outputs have k s b =
     ((i : ℕ) × (i < m) × (held none (steps.kept keeps outputs have) b ≡ get_or outputs i none) × (b ≡ new_place keeps i))
     ⊎ ((held none (steps.kept keeps outputs have) b ≡ held none have b) × steps.IsThere k s b)
 
+-- behind the new outputs a key is as before
+pub get_or-kept : {X : Type 0} (outputs old : List X) (i : ℕ) (none : X) → length outputs ≤ i → get_or (outputs ++ drop (length outputs) old) i none ≡ get_or old i none
+get_or-kept outputs old i none le =
+    let place : length outputs + (i - length outputs) ≡ i = omega arith in
+    get_or-append_right outputs (drop (length outputs) old) (length outputs) i none refl le
+    ∙ get_or-drop (length outputs) old (i - length outputs) none
+    ∙ ap (λ (n : ℕ). get_or old n none) place
+
 pub behind : {X : Type 0} (none : X) (keeps : steps.Keeps) (c : Netlist) (outputs : List X) (have : steps.Registers X) (k s : ℕ) → length outputs ≡ length c.outputs →
     steps.Fit k keeps c → (b : steps.InputBit) → IsHeld b → steps.IsThere k (steps.state_after keeps c s) b → Behind none keeps (length c.outputs) outputs have k s b
 behind none keeps c outputs have k s count fit (steps.Public x) is there = absurd (is tt)
@@ -187,10 +195,7 @@ behind none steps.AsState c outputs have k s count fit (steps.Key i) is there = 
 behind none steps.AsState c outputs have k s count fit (steps.State i) is there = inl (i, there, refl, refl)
 behind none steps.AsKey c outputs have k s count fit (steps.Key i) is there = elim (cases_lt i (length outputs)) [
   | inl lt ↦ inl (i, omega arith, get_or_append_left outputs (drop (length outputs) have.key) none i lt, refl)
-  | inr le ↦
-      let place : length outputs + (i - length outputs) ≡ i = omega arith in
-      inr (get_or-append_right outputs (drop (length outputs) have.key) (length outputs) i none refl le
-      ∙ get_or-drop (length outputs) have.key (i - length outputs) none ∙ ap (λ (n : ℕ). get_or have.key n none) place, there)
+  | inr le ↦ inr (get_or-kept outputs have.key i none le, there)
 ]
 
 -- the registers have as many bits
