@@ -6,3 +6,6 @@ pub mod Inputs
 pub mod StrongRuns
 pub mod SameWires
 pub mod RunWires
+pub mod Woven
+pub mod Alike
+pub mod Showing

@@ -171,7 +171,7 @@ wires-cons call calls N j x outputs own rest long =
     (take_front (call_draws N call) own rest long) (drop_front (call_draws N call) own rest long)
 
 -- the bits of the gates are all there
-length-gate_tape : (N : ℕ) (t : steps.Step) (r : List Bool) → steps.stretch N t ≤ length r → length (gate_tape N t r) ≡ draws t.circuit N
+pub length-gate_tape : (N : ℕ) (t : steps.Step) (r : List Bool) → steps.stretch N t ≤ length r → length (gate_tape N t r) ≡ draws t.circuit N
 length-gate_tape N t r long =
     length-take-le (draws t.circuit N) (drop (steps.sharing_bits N t) r) (let behind = length-drop (steps.sharing_bits N t) r in omega arith)
 

@@ -6,10 +6,9 @@ use Rattle.std.proofs.lemmas.List.Elements.{All-nil, All-cons}
 use Rattle.mask_circuit.specs.Netlist.{Netlist}
 use Rattle.mask_circuit.specs.Wires.{each}
 use Rattle.mask_shares.proofs.Lists.{length-each, get_or-each}
-use Rattle.mask_laws.specs.Runs.{Origin, Public, Variable, Output, IsPublic, IsThere, AreStrongCalls}
+use Rattle.mask_laws.specs.Runs.{Origin, Public, Variable, Output, IsPublic, IsThere, AreStrongCalls, IsStrongRun}
 use Rattle.mask_trace.specs.Steps as steps
-use Rattle.mask_trace.specs.Calls.{origins, outputs_of, calls_from, with_key}
-use Rattle.mask_trace.specs.Laws.{PlansAreStrongRuns}
+use Rattle.mask_trace.specs.Calls.{origins, outputs_of, calls_from, calls_of, with_key}
 
 -- ORIGINS
 
@@ -309,5 +308,6 @@ key_apart n = record {
     apart (steps.Key i) (steps.State l) is_b is_c there_b there_c e = absurd (omega arith)
     apart (steps.Key i) (steps.Key l) is_b is_c there_b there_c e = ap steps.Key (same_variable i l (sym (at i there_b) ∙ e ∙ at l there_c))
 
-pub plans_are_strong_runs : PlansAreStrongRuns
+-- A strong plan is a strong run.
+pub plans_are_strong_runs : (n : ℕ) (ss : List steps.Step) → steps.IsStrongPlan n 0 ss → IsStrongRun (calls_of n ss)
 plans_are_strong_runs n ss plan = strong_from ss [] 0 n n 0 (with_key n) (key_apart n) refl plan

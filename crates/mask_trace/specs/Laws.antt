@@ -2,13 +2,14 @@
 use Rattle.std.specs.Prelude.{◌≡◌, ℕ, ◌+◌, ◌*◌, ◌<◌, ◌≤◌, Bool, List, [], ◌++◌, length, take, drop}
 use Rattle.mask_bits.specs.Reading.{low}
 use Rattle.mask_tape.specs.Tape.{IsDrawn}
-use Rattle.mask_laws.specs.Runs.{IsStrongRun}
+use Rattle.mask_circuit.specs.Probing.{size}
+use Rattle.mask_laws.specs.Runs.{run_wires, run_draws, run_need, IsRunSimulated, IsStrongRun}
 use Rattle.mask_eval.specs.Watching.{told_more}
 use Rattle.mask_trace.specs.Steps.{Registers, Step, IsStrongPlan, bits_of}
 use Rattle.mask_trace.specs.Traces.{BitShares, after, trace}
 use Rattle.mask_trace.specs.Drawing.{Stand, Drew, Ran, RanPart}
-use Rattle.mask_trace.specs.Calls.{calls_of}
-use Rattle.mask_trace.specs.Privacy.{IsPrivateTrace}
+use Rattle.mask_trace.specs.Calls.{calls_of, gate_coins, variables}
+use Rattle.mask_trace.specs.Privacy.{trace_wires, IsPrivateTrace}
 
 -- The trace of steps and more steps is that of the steps, and then that of the others from what is in shares by then, with
 -- the tape that is left.
@@ -55,10 +56,20 @@ abbrev pub DrawnIsDrew : Type 0
 DrawnIsDrew = (a b : Stand) (lanes bits : ℕ) (words : List ℕ) → length a.kept < 8 →
     (drawn : IsDrawn a.kept b.kept a.left b.left lanes bits words) → Drew (lanes * bits) drawn.fresh a b
 
--- A strong plan is a strong run in the probing model ..
-abbrev pub PlansAreStrongRuns : Type 0
-PlansAreStrongRuns = (n : ℕ) (ss : List Step) → IsStrongPlan n 0 ss → IsStrongRun (calls_of n ss)
+-- A strong plan with a key of n bits is a strong run in the probing model. The variables of the run are the bits of the key
+-- and then those of the message, and its wires are those of the plan. So any t of them, t at most N - 1, need at most t
+-- shares of each of these bits, and these suffice.
+pub record IsRun (N n : ℕ) (ss : List Step) : Type 0 where
+  pub strong : IsStrongRun (calls_of n ss)
+  pub wires : (key : List BitShares) (r : List Bool) → length key ≡ n → bits_of N ss ≤ length r →
+      trace_wires N (record { key = key; state = [] }) ss r ≡ run_wires (calls_of n ss) N (variables N key ss r) (gate_coins N ss r)
+  pub tape : (r : List Bool) → bits_of N ss ≤ length r → length (gate_coins N ss r) ≡ run_draws (calls_of n ss) N
+  pub few : (P : List ℕ) → length P < N → (v : ℕ) → size N (run_need (calls_of n ss) N P v) ≤ length P
+  pub suffice : (P : List ℕ) → length P < N → IsRunSimulated (calls_of n ss) N P (run_need (calls_of n ss) N P)
 
--- .. and any few wires of it show nothing of the key and the message.
+abbrev pub PlansAreRuns : Type 0
+PlansAreRuns = (N n : ℕ) (ss : List Step) → 2 ≤ N → IsStrongPlan n 0 ss → IsRun N n ss
+
+-- Any few wires of a strong plan show nothing of the key and the message.
 abbrev pub PlansArePrivate : Type 0
 PlansArePrivate = (N n : ℕ) (ss : List Step) → 2 ≤ N → IsStrongPlan n 0 ss → IsPrivateTrace N n ss
