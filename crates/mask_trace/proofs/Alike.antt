@@ -1,5 +1,5 @@
 -- Plans that are the same but for the message bits have the same calls, and one is strong where the other is.
-use Rattle.std.proofs.Common.{◌≡◌, ℕ, zero, suc, ◌+◌, ◌<◌, Bool, false, List, [], ◌∷◌, ◌++◌, map, length, get_or, All, refl, ap, ap₂, sym, subst, ◌∙◌, arith, length-append}
+use Rattle.std.proofs.Common.{◌≡◌, ℕ, zero, suc, ◌+◌, ◌<◌, false, List, [], ◌∷◌, map, length, get_or, refl, ap, ap₂, sym, subst, ◌∙◌, arith, length-append}
 use Rattle.std.proofs.lemmas.List.{length-map, get_or-map}
 use Rattle.mask_laws.specs.Runs.{Origin, Public, Variable, Call}
 use Rattle.mask_trace.specs.Steps as steps

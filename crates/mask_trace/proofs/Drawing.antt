@@ -1,15 +1,14 @@
 -- What is drawn and told in two parts, and what a tape's own contract says of it.
-use Rattle.std.proofs.Common.{◌≡◌, ℕ, zero, suc, ◌+◌, ◌-◌, ◌*◌, ◌/◌, ◌<◌, ◌≤◌, Bool, List, [], ◌∷◌, ◌++◌, length, take, drop, Some, None, refl, ap, ap₂, sym, subst, ◌∙◌, arith, append_assoc, length-append, length-drop}
+use Rattle.std.proofs.Common.{◌≡◌, ℕ, zero, suc, ◌+◌, ◌<◌, Bool, List, [], ◌∷◌, ◌++◌, length, take, drop, Some, None, refl, ap, ap₂, sym, subst, ◌∙◌, arith, append_assoc, length-append, length-drop}
 use Rattle.std.specs.declared.option.Option.{Option}
 use Rattle.std.proofs.KnownBytes.{Consumes-nil, Consumes-trans}
-use Rattle.std.proofs.lemmas.List.{append-nil, drop-append-le, drop-drop, take-append-le, take_all, length-take-le}
+use Rattle.std.proofs.lemmas.List.{append-nil, drop-append-le, drop-drop, take-append-le, take_all}
 use Rattle.mask_bits.specs.Reading.{low}
 use Rattle.mask_bits.proofs.Bytes.{low-append, length-low}
-use Rattle.mask_tape.specs.Tape.{bytes_for, IsDrawn}
 use Rattle.mask_eval.specs.Watching.{Told, told_more}
 use Rattle.mask_trace.specs.Steps.{Registers, Step, stretch, bits_of}
 use Rattle.mask_trace.specs.Traces.{BitShares, evaluation, after_step, after, trace}
-use Rattle.mask_trace.specs.Drawing.{Stand, Drew, Ran, RanPart}
+use Rattle.mask_trace.specs.Drawing.{Stand, Drew, Ran}
 use Rattle.mask_trace.specs.Laws.{RunsJoin, DrawsJoin, PartsAreBeginnings, DrawnIsDrew}
 use Rattle.mask_trace.proofs.Traces.{traces_split, tape_is_enough}
 

@@ -1,9 +1,9 @@
 -- The wires of a plan are those of its calls.
-use Rattle.std.proofs.Common.{◌≡◌, ℕ, zero, suc, pred, ◌+◌, ◌*◌, ◌<◌, ◌≤◌, inl, inr, Bool, false, List, [], ◌∷◌, ◌++◌, map, length, take, drop, get_or, All, refl, ap, ap₂, sym, subst, ◌∙◌, ◌==◌, arith, length-append, length-drop, eq-eqb, ne_eqb}
+use Rattle.std.proofs.Common.{◌≡◌, ℕ, zero, suc, pred, ◌+◌, ◌*◌, ◌<◌, ◌≤◌, inl, inr, Bool, false, List, [], ◌∷◌, ◌++◌, length, take, drop, get_or, All, refl, ap, ap₂, sym, subst, ◌∙◌, ◌==◌, arith, length-append, length-drop, eq-eqb, ne_eqb}
 use Rattle.std.specs.List.{flat_map}
 use Rattle.std.proofs.lemmas.Bool.{cases_lt, cond-true, cond-false}
 use Rattle.std.proofs.lemmas.List.{length-map, length-take-le, get_or-map, get_or_append_left, get_or-append-add, length_push, take-append-le, drop-append-le}
-use Rattle.mask_circuit.specs.Netlist.{Netlist, IsWellFormed, value_count}
+use Rattle.mask_circuit.specs.Netlist.{Netlist}
 use Rattle.mask_circuit.specs.Ring.{bits}
 use Rattle.mask_circuit.specs.Wires.{Shares, each, on_first}
 use Rattle.mask_circuit.specs.Expansion.{shares_of, expand, draws, outs, wires}
@@ -17,9 +17,9 @@ use Rattle.mask_eval.specs.Frames.{SameShares}
 use Rattle.mask_trace.specs.Steps as steps
 use Rattle.mask_trace.specs.Traces.{BitShares, input_shares, gate_tape, output_shares, after_step}
 use Rattle.mask_trace.specs.Calls.{origins, outputs_of, calls_from, calls_of, with_key, message_bits, message_coins, gate_coins, variables}
-use Rattle.mask_trace.specs.Privacy.{step_wires, trace_wires}
+use Rattle.mask_trace.specs.Privacy.{trace_wires}
 use Rattle.mask_trace.proofs.Traces.{bits_of-cons}
-use Rattle.mask_trace.proofs.StrongRuns.{IsKnown, IsHeld, held, origin_held, AreApart, get_or-kept, length-origins, apart-later, key_apart}
+use Rattle.mask_trace.proofs.StrongRuns.{IsKnown, IsHeld, held, origin_held, AreApart, get_or-kept, apart-later, key_apart}
 use Rattle.mask_trace.proofs.SameWires.{wires-same, values-same}
 
 -- SHARES OF TWO PARTS

@@ -1,5 +1,5 @@
 -- The wires of a circuit depend on no more than the N shares of its inputs.
-use Rattle.std.proofs.Common.{◌≡◌, ℕ, ◌+◌, ◌<◌, ◌≤◌, Bool, List, [], ◌∷◌, ◌++◌, map, refl, ap, ap₂, sym, ◌∙◌}
+use Rattle.std.proofs.Common.{◌≡◌, ℕ, ◌≤◌, Bool, List, ◌++◌, ap₂, sym, ◌∙◌}
 use Rattle.std.proofs.lemmas.List.{map-append}
 use Rattle.mask_circuit.specs.Netlist.{Netlist, IsWellFormed, value_count}
 use Rattle.mask_circuit.specs.Ring.{bits}

@@ -1,18 +1,17 @@
 -- A strong plan is a run, and few of its wires show nothing.
-use Rattle.std.proofs.Common.{◌≡◌, ℕ, suc, pred, ◌+◌, ◌*◌, ◌<◌, ◌≤◌, Bool, false, cond, List, [], ◌∷◌, ◌++◌, map, length, get_or, refl, ap, ap₂, sym, subst, ◌∙◌, arith, length-append}
+use Rattle.std.proofs.Common.{◌≡◌, ℕ, pred, ◌+◌, ◌*◌, ◌≤◌, Bool, false, cond, List, ◌++◌, map, length, get_or, ap, sym, ◌∙◌, arith, length-append}
 use Rattle.std.proofs.Math.Nat.{mul-add}
 use Rattle.mask_circuit.specs.Ring.{bits}
-use Rattle.mask_circuit.specs.Wires.{Shares}
 use Rattle.mask_circuit.specs.Sharing.{all_listed, all_shared}
 use Rattle.mask_circuit.specs.Probing.{same_bits, sum_over_tapes}
-use Rattle.mask_laws.specs.Runs.{Origin, Call, run_draws, run_wires, run_seen, run_hits, private_run_hits}
+use Rattle.mask_laws.specs.Runs.{Call, run_draws, run_seen, run_hits, private_run_hits}
 use Rattle.mask_laws.proofs.Hiding.{strong_run_is_private}
 use Rattle.mask_laws.proofs.Running.{run_needs}
 use Rattle.mask_laws.proofs.Tapes.{sum_over_tapes-same, sum_over_tapes-add}
 use Rattle.mask_trace.specs.Steps as steps
 use Rattle.mask_trace.specs.Traces.{BitShares}
-use Rattle.mask_trace.specs.Calls.{origins, outputs_of, calls_from, calls_of, with_key, message_bits, message_coins, gate_coins, variables}
-use Rattle.mask_trace.specs.Privacy.{trace_wires, trace_seen, key_shared, trace_hits, without_message, AreAlike}
+use Rattle.mask_trace.specs.Calls.{calls_of, with_key, message_bits, message_coins, gate_coins}
+use Rattle.mask_trace.specs.Privacy.{trace_seen, key_shared, trace_hits}
 use Rattle.mask_trace.specs.Laws.{PlansAreRuns, PlansArePrivate}
 use Rattle.mask_trace.proofs.Alike.{calls-alike, messages-alike, plan-alike}
 use Rattle.mask_trace.proofs.RunWires.{length-all_shared, all_shared-append, run_wires-plan}

@@ -1,5 +1,5 @@
 -- What one evaluation in lanes tells is the trace of the steps in its lanes.
-use Rattle.std.proofs.Common.{◌≡◌, ℕ, zero, suc, pred, ◌+◌, ◌-◌, ◌*◌, ◌<◌, ◌≤◌, Bool, List, [], ◌∷◌, ◌++◌, map, length, take, drop, refl, ap, ap₂, sym, subst, ◌∙◌, arith}
+use Rattle.std.proofs.Common.{◌≡◌, ℕ, zero, suc, pred, ◌+◌, ◌-◌, ◌*◌, ◌<◌, Bool, List, [], ◌∷◌, ◌++◌, map, take, drop, refl, ap, ap₂, sym, subst, ◌∙◌, arith}
 use Rattle.std.specs.List.{concat}
 use Rattle.std.proofs.lemmas.List.{map-append, take-map, drop-map}
 use Rattle.mask_bits.specs.Reading.{bit, low}
@@ -11,9 +11,9 @@ use Rattle.mask_circuit.specs.Expansion.{draws, outs}
 use Rattle.mask_circuit.specs.Sharing.{all_listed}
 use Rattle.mask_shares.proofs.Lists.{each-same}
 use Rattle.mask_eval.specs.Watching.{Told, told_more, reports}
-use Rattle.mask_trace.specs.Steps.{Nothing, Registers, Step, kept, stretch, sharing_bits, bits_of}
+use Rattle.mask_trace.specs.Steps.{Nothing, Registers, Step, kept, stretch, bits_of}
 use Rattle.mask_trace.specs.Traces.{BitShares, value_by_value, input_shares, output_shares, evaluation, after_step, after, trace}
-use Rattle.mask_trace.specs.Drawing.{Stand, Drew, Ran}
+use Rattle.mask_trace.specs.Drawing.{Stand, Drew}
 use Rattle.mask_trace.specs.Lanes.{RanInLanes, LanesAreSteps, LaneIsStep}
 use Rattle.mask_trace.proofs.Traces.{traces_split, bits_of-cons, evaluation-take, output_shares-take}
 use Rattle.mask_trace.proofs.Drawing.{drawn_is_drew}
@@ -141,8 +141,7 @@ module _ (N m lanes : ℕ) (c : Netlist) (have : Registers BitShares) (step : �
 pub lanes_are_steps : LanesAreSteps
 lanes_are_steps N m lanes c have step coins inputs outputs a b ran none =
     let r = a.kept ++ low ran.drawn.fresh in
-    let n = m + draws c N in
-    (
+    let n = m + draws c N in (
       record {
         fresh = ran.drawn.fresh;
         drew = drew N m lanes c have step coins inputs outputs a b ran;

@@ -1,7 +1,7 @@
 -- A strong plan is a strong run: no register holds an origin twice.
-use Rattle.std.proofs.Common.{◌≡◌, ℕ, zero, suc, ◌+◌, ◌-◌, ◌<◌, ◌≤◌, ◌⊎◌, inl, inr, Bool, false, List, [], ◌∷◌, ◌++◌, length, drop, get_or, slice_index, All, refl, ap, ap₂, sym, subst, ◌∙◌, arith, length-append, length-drop}
+use Rattle.std.proofs.Common.{◌≡◌, ℕ, zero, suc, ◌+◌, ◌-◌, ◌<◌, ◌≤◌, ◌⊎◌, inl, inr, Bool, false, List, [], ◌∷◌, ◌++◌, length, drop, get_or, slice_index, All, refl, ap, sym, subst, ◌∙◌, arith, length-append, length-drop}
 use Rattle.std.proofs.lemmas.Bool.{cases_lt}
-use Rattle.std.proofs.lemmas.List.{get_or_append_left, get_or-append_right, get_or_push, get_or-drop, length_push, get_or_default}
+use Rattle.std.proofs.lemmas.List.{get_or_append_left, get_or-append_right, get_or_push, get_or-drop, length_push}
 use Rattle.std.proofs.lemmas.List.Elements.{All-nil, All-cons}
 use Rattle.mask_circuit.specs.Netlist.{Netlist}
 use Rattle.mask_circuit.specs.Wires.{each}
@@ -267,8 +267,7 @@ strong_from : (ss : List steps.Step) (counts : List ℕ) (j v k s : ℕ) (have :
 unfolding calls_from
 strong_from [] counts j v k s have are number plan = tt
 strong_from (t ∷ ts) counts j v k s have are number plan =
-    let count = length-origins have v t.inputs in
-    (
+    let count = length-origins have v t.inputs in (
       record {
         formed = plan.0.formed;
         strong = plan.0.strong;
@@ -277,8 +276,8 @@ strong_from (t ∷ ts) counts j v k s have are number plan =
         once = λ u w lt within e. origins-once counts v k s have are v t.inputs (omega arith) plan.0.there plan.0.once u w lt (omega arith) e;
       },
       strong_from ts (counts ++ length t.circuit.outputs ∷ []) (suc j) (v + length (steps.plain_bits t.inputs)) k (steps.state_after t.keeps t.circuit s) _
-      (apart-later counts j v (v + length (steps.plain_bits t.inputs)) k s have are number (omega arith) t.keeps t.circuit plan.0.fit)
-      (omega (arith, length_push counts (length t.circuit.outputs))) plan.1,
+          (apart-later counts j v (v + length (steps.plain_bits t.inputs)) k s have are number (omega arith) t.keeps t.circuit plan.0.fit)
+          (omega (arith, length_push counts (length t.circuit.outputs))) plan.1,
     )
 
 -- A key stands apart.

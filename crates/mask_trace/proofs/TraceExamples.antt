@@ -1,9 +1,7 @@
 -- The definitions of a run at a worked example on two shares, computed.
-use Rattle.std.proofs.Common.{◌≡◌, zero, suc, Bool, true, false, List, [], ◌∷◌, ◌++◌, map, take, refl}
+use Rattle.std.proofs.Common.{◌≡◌, Bool, true, false, List, [], ◌∷◌, map, refl}
 use Rattle.mask_circuit.specs.declared.gates.Gate.TheVariants.{Xor, And, Ref}
 use Rattle.mask_circuit.specs.Netlist.{Netlist}
-use Rattle.mask_circuit.specs.Sharing.{all_listed}
-use Rattle.mask_circuit.specs.Ring.{bits}
 use Rattle.mask_eval.specs.Watching.{Told}
 use Rattle.mask_laws.specs.Runs as runs
 use Rattle.mask_trace.specs.Steps.{Public, Plain, Key, State, Nothing, AsKey, AsState, Registers, Step, bits_of}
