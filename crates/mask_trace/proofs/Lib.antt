@@ -1,4 +1,5 @@
-mod TraceExamples
+pub mod TraceExamples
+mod StrongExamples
 pub mod Traces
 pub mod Drawing
 pub mod SideBySide
