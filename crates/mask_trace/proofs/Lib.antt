@@ -10,3 +10,4 @@ pub mod RunWires
 pub mod Woven
 pub mod Alike
 pub mod Showing
+pub mod Computing

@@ -7,6 +7,7 @@ use Rattle.mask_laws.specs.Runs as runs
 use Rattle.mask_trace.specs.Steps.{Public, Plain, Key, State, Nothing, AsKey, AsState, Registers, Step, bits_of}
 use Rattle.mask_trace.specs.Traces.{BitShares, after, trace}
 use Rattle.mask_trace.specs.Calls.{calls_of, calls_from, message_bits, message_coins, gate_coins, variables}
+use Rattle.mask_trace.specs.Values.{values_of, step_value, value_after}
 use Rattle.mask_trace.specs.Privacy.{trace_wires, trace_hits}
 
 -- the product of the bits 1 and 2, and bit 0 added to it, refreshed
@@ -70,6 +71,14 @@ plan_trace = refl
 plan_after : after 2 key_alone plan tape ≡ record { key = (true ∷ false ∷ []) ∷ []; state = (true ∷ false ∷ []) ∷ [] }
 unfolding after
 plan_after = refl
+
+-- On plain bits the first step gives 1 · 1, the refresh gives the key bit, and the last step gives 1 · 1 + 1.
+plan_values : value_after (values_of key_alone) plan ≡ record { key = true ∷ []; state = true ∷ [] }
+unfolding value_after
+plan_values = refl
+
+last_value : step_value (record { key = true ∷ []; state = true ∷ [] }) third ≡ false ∷ []
+last_value = refl
 
 -- The variables are the key bit and then the message bit; the last call takes an output of each of the others.
 plan_calls : calls_of 1 plan
