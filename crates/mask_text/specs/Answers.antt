@@ -31,15 +31,10 @@ abbrev pub Answers : {A : Type 0} → (A → List ℕ → Type 0) → Result A T
 Answers P (Ok value) before now = TakesAll before now (P value)
 Answers P (Err error) before now = Explains error before now
 
--- the error is that a read failed
-abbrev pub is_fault : TextError → Bool
-is_fault ReadFault = true
-is_fault error = false
-
 -- the answer is that a read failed
-abbrev pub is_read_fault : {A : Type 0} → Result A TextError → Bool
-is_read_fault (Ok value) = false
-is_read_fault (Err error) = is_fault error
+abbrev pub failed_to_read : {A : Type 0} → Result A TextError → Bool
+failed_to_read (Err ReadFault) = true
+failed_to_read answer = false
 
 -- the answer is this one, unless a read failed or memory ran out
 abbrev pub IsUnlessFailed : {A : Type 0} → Result A TextError → Result A TextError → Type 0

@@ -2,7 +2,7 @@
 
 ghost use Rattle.std.specs.Prelude.{◌≡◌, IfSome};
 ghost use Rattle.mask_io.specs.Outside.{faults_after};
-ghost use Rattle.mask_text.specs.Answers.{TakesFront, Answers, IsAnswerTo, is_read_fault};
+ghost use Rattle.mask_text.specs.Answers.{TakesFront, Answers, IsAnswerTo, failed_to_read};
 ghost use Rattle.mask_text.specs.Text.{IsText, IsTextOf};
 
 use crate::errors::TextError;
@@ -19,7 +19,7 @@ fn read_all<S: Source>(alloc: Global, source: &mut S) -> Result<Vec<u8>, TextErr
     ensures answer { Answers (λ text bytes. text.items ≡ bytes) result
         (S.left source.old) (S.left source.new) }
     ensures front { TakesFront (S.left source.old) (S.left source.new) }
-    ensures counts { S.faults source.new ≡ faults_after (is_read_fault result) (S.faults source.old) }
+    ensures counts { S.faults source.new ≡ faults_after (failed_to_read result) (S.faults source.old) }
 {
     let mut text = Vec::new(alloc);
     let mut piece = [0; PIECE];
@@ -43,7 +43,7 @@ pub fn read_labelled<S: Source>(alloc: Global, source: &mut S) -> Result<Labelle
     ensures only { Answers (λ l bytes. IsText bytes l) result
         (S.left source.old) (S.left source.new) }
     ensures front { TakesFront (S.left source.old) (S.left source.new) }
-    ensures counts { S.faults source.new ≡ faults_after (is_read_fault result) (S.faults source.old) }
+    ensures counts { S.faults source.new ≡ faults_after (failed_to_read result) (S.faults source.old) }
 {
     let text = read_all(alloc, source)?;
     read_text(alloc, &text)
@@ -56,7 +56,7 @@ pub fn read_circuit<S: Source>(alloc: Global, source: &mut S) -> Result<Circuit,
     ensures only { Answers (λ c bytes. IsTextOf bytes c) result
         (S.left source.old) (S.left source.new) }
     ensures front { TakesFront (S.left source.old) (S.left source.new) }
-    ensures counts { S.faults source.new ≡ faults_after (is_read_fault result) (S.faults source.old) }
+    ensures counts { S.faults source.new ≡ faults_after (failed_to_read result) (S.faults source.old) }
 {
     let labelled = read_labelled(alloc, source)?;
     Ok(labelled.into_circuit())
