@@ -1,1 +1,7 @@
+pub mod BlockCounts
 mod CounterExamples
+pub mod Keystreams
+pub mod Pieces
+pub mod Splitting
+pub mod TapeBits
+pub mod Xors
