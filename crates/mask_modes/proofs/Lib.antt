@@ -2,6 +2,7 @@ pub mod BlockCounts
 mod CounterExamples
 pub mod Keystreams
 pub mod Pieces
+pub mod Plans
 pub mod Splitting
 pub mod TapeBits
 pub mod Xors

@@ -1,5 +1,5 @@
 //! What is proved of counter mode.
-ghost use Rattle.mask_modes.specs.Laws.{CiphertextFits, MessagesSplit};
+ghost use Rattle.mask_modes.specs.Laws.{CiphertextFits, MessagesSplit, RunBits, StepsAreStrong};
 
 /// A message splits behind any whole blocks.
 pub fn messages_split()
@@ -9,4 +9,14 @@ pub fn messages_split()
 /// A ciphertext is as long as its message, begins with that of each beginning, and encrypts to the message.
 pub fn ciphertext_fits()
     ensures { CiphertextFits }
+{}
+
+/// How many bits a run takes from the tape.
+pub fn run_bits()
+    ensures { RunBits }
+{}
+
+/// The steps of a message are a strong plan, and depend on the message in its bits alone.
+pub fn steps_are_strong()
+    ensures { StepsAreStrong }
 {}
