@@ -1,5 +1,5 @@
 -- Lists that are made by number, in two parts.
-use Rattle.std.proofs.Common.{◌≡◌, ℕ, zero, suc, ◌+◌, ◌*◌, ◌<◌, List, [], ◌∷◌, ◌++◌, length, refl, ap, ap₂, sym, ◌∙◌, arith, append_assoc, append-nil, add-zero, add-suc, length-append}
+use Rattle.std.proofs.Common.{◌≡◌, ℕ, zero, suc, ◌+◌, List, [], ◌∷◌, ◌++◌, ap, sym, ◌∙◌, append_assoc, append-nil, add-zero, add-suc}
 use Rattle.mask_circuit.specs.Wires.{each, joined}
 
 pub each-add : {A : Type 0} (f : ℕ → A) (m n : ℕ) → each f (m + n) ≡ each f m ++ each (λ k. f (m + k)) n

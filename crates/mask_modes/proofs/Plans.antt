@@ -1,11 +1,11 @@
 -- The steps of counter mode are a strong plan, and depend on the message in its bits alone.
-use Rattle.std.proofs.Common.{◌≡◌, ◌≢◌, ℕ, zero, suc, ◌+◌, ◌-◌, ◌*◌, ◌<◌, ◌≤◌, Bool, true, false, cond, List, [], ◌∷◌, ◌++◌, length, map, get_or, All, ◌⊎◌, inl, inr, refl, ap, ap₂, sym, subst, ◌∙◌, arith, length-append, append_assoc}
+use Rattle.std.proofs.Common.{◌≡◌, ℕ, suc, ◌-◌, ◌*◌, ◌<◌, ◌≤◌, Bool, true, false, cond, List, [], ◌∷◌, ◌++◌, length, map, get_or, All, ◌⊎◌, inl, inr, refl, ap, ap₂, sym, subst, ◌∙◌, arith, length-append}
 use Rattle.std.proofs.lemmas.Bool.{cases_lt}
 use Rattle.std.proofs.lemmas.List.{length-map, map-append, append-nil, get_or_append_left, get_or-append_right}
 use Rattle.std.proofs.lemmas.List.Elements.{All-nil, All-tail, All-append, All-map, All-from_get_or}
 use Rattle.mask_circuit.specs.Wires.{each}
 use Rattle.mask_shares.proofs.Lists.{length-each, get_or-each}
-use Rattle.mask_trace.specs.Steps.{InputBit, Public, Plain, Key, State, Nothing, AsKey, Step, IsThere, IsNotHeld, IsStrongStep, IsStrongPlan, input_at}
+use Rattle.mask_trace.specs.Steps.{InputBit, Public, Plain, Key, Step, IsThere, IsNotHeld, IsStrongStep, IsStrongPlan}
 use Rattle.mask_trace.specs.Privacy.{AreAlike, without_message}
 use Rattle.mask_modes.specs.CounterMode.{block_count, counter}
 use Rattle.mask_modes.specs.Steps.{Mode, Enciphers, blocks, block_step, refresh_step, steps_from, is_due}
@@ -58,16 +58,14 @@ abbrev with_inputs : Step → List InputBit → Step
 with_inputs s is = record s { inputs = is }
 
 module _ (m : Mode) (cipher : List Bool → List ℕ → List ℕ) (is : Enciphers cipher m) where
-  block_step_is_strong : (i : ℕ) (block : List ℕ) → length block ≡ m.block → IsStrongStep m.key 0 (block_step m i block)
+  pub block_step_is_strong : (i : ℕ) (block : List ℕ) → length block ≡ m.block → IsStrongStep m.key 0 (block_step m i block)
   block_step_is_strong i block e = record {
     formed = is.formed;
     strong = is.strong;
-    count = omega (arith, length-append (each Key m.key ++ public) plain, length-append (each Key m.key) public, length-each Key m.key, publics, plains, is.inputs);
-    there = All-append (IsThere m.key 0) (each Key m.key ++ public) plain
-        (All-append (IsThere m.key 0) (each Key m.key) public (key_there m.key 0) (All-map (IsThere m.key 0) Public _ (λ k d lt. tt)))
-        (All-map (IsThere m.key 0) Plain _ (λ k d lt. tt));
-    once = subst IsOnce (sym (append_assoc (each Key m.key) public plain))
-        (key_once m.key (public ++ plain) (All-append IsNotHeld public plain (All-map IsNotHeld Public _ (λ k d lt. tt)) (All-map IsNotHeld Plain _ (λ k d lt. tt))));
+    count = omega (arith, length-append (each Key m.key) (public ++ plain), length-append public plain, length-each Key m.key, publics, plains, is.inputs);
+    there = All-append (IsThere m.key 0) (each Key m.key) (public ++ plain) (key_there m.key 0)
+        (All-append (IsThere m.key 0) public plain (All-map (IsThere m.key 0) Public _ (λ k d lt. tt)) (All-map (IsThere m.key 0) Plain _ (λ k d lt. tt)));
+    once = key_once m.key (public ++ plain) (All-append IsNotHeld public plain (All-map IsNotHeld Public _ (λ k d lt. tt)) (All-map IsNotHeld Plain _ (λ k d lt. tt)));
     fit = tt;
   }
     where
@@ -83,7 +81,7 @@ module _ (m : Mode) (cipher : List Bool → List ℕ → List ℕ) (is : Enciphe
       plains : length plain ≡ 8 * m.block
       plains = length-map _ Plain ∙ is.reads block ∙ ap (λ (n : ℕ). 8 * n) e
 
-  refresh_step_is_strong : IsStrongStep m.key 0 (refresh_step m)
+  pub refresh_step_is_strong : IsStrongStep m.key 0 (refresh_step m)
   refresh_step_is_strong = record {
     formed = is.refresh_formed;
     strong = is.refresh_strong;
@@ -108,10 +106,13 @@ module _ (m : Mode) (cipher : List Bool → List ℕ → List ℕ) (is : Enciphe
   inputs_are_alike : (i : ℕ) (block other : List ℕ) → length block ≡ length other →
       map without_message (block_step m i block).inputs ≡ map without_message (block_step m i other).inputs
   inputs_are_alike i block other e =
-      let front = each Key m.key ++ map Public (m.reading (counter m.block m.iv i)) in
-      map-append without_message front (map Plain (m.reading block))
-      ∙ ap (λ l. map without_message front ++ l) (hidden (m.reading block) (m.reading other) (is.reads block ∙ ap (λ (n : ℕ). 8 * n) e ∙ sym (is.reads other)))
-      ∙ sym (map-append without_message front (map Plain (m.reading other)))
+      let public = map Public (m.reading (counter m.block m.iv i)) in
+      map-append without_message (each Key m.key) (public ++ map Plain (m.reading block))
+      ∙ ap (λ l. map without_message (each Key m.key) ++ l)
+      (map-append without_message public (map Plain (m.reading block))
+      ∙ ap (λ l. map without_message public ++ l) (hidden (m.reading block) (m.reading other) (is.reads block ∙ ap (λ (n : ℕ). 8 * n) e ∙ sym (is.reads other)))
+      ∙ sym (map-append without_message public (map Plain (m.reading other))))
+      ∙ sym (map-append without_message (each Key m.key) (public ++ map Plain (m.reading other)))
 
   steps_are_alike : (i : ℕ) (part other : List (List ℕ)) → All (λ block. length block ≡ m.block) part → All (λ block. length block ≡ m.block) other →
       length part ≡ length other → AreAlike (steps_from m i part) (steps_from m i other)

@@ -1,5 +1,5 @@
 -- How many bits of the tape the steps of a message take.
-use Rattle.std.proofs.Common.{◌≡◌, ℕ, zero, suc, pred, ◌+◌, ◌-◌, ◌*◌, ◌/◌, ◌%◌, ◌<◌, ◌≤◌, Bool, true, false, not, ◌&&◌, ◌==◌, cond, List, [], ◌∷◌, ◌++◌, length, map, All, take, drop, replicate, refl, ap, ap₂, sym, ◌∙◌, arith, length-append, eqb-true}
+use Rattle.std.proofs.Common.{◌≡◌, ℕ, zero, suc, pred, ◌+◌, ◌-◌, ◌*◌, ◌/◌, ◌%◌, Bool, true, false, not, ◌&&◌, ◌==◌, cond, List, [], ◌∷◌, ◌++◌, length, map, All, drop, replicate, refl, ap, ap₂, sym, ◌∙◌, arith, length-append, eqb-true}
 use Rattle.std.proofs.lemmas.Bool.{eqb-false}
 use Rattle.std.proofs.lemmas.List.{length-take-le, length-replicate}
 use Rattle.std.proofs.lemmas.List.Elements.{All-tail}
@@ -7,7 +7,7 @@ use Rattle.std.proofs.lemmas.List.Sums.{sum_by-cons, sum_by-append}
 use Rattle.mask_circuit.specs.Wires.{each}
 use Rattle.mask_circuit.specs.Expansion.{draws}
 use Rattle.mask_shares.proofs.Lists.{length-each, get_or-each}
-use Rattle.mask_trace.specs.Steps.{InputBit, Public, Plain, Key, State, Step, plain_bits, sharing_bits, stretch, bits_of}
+use Rattle.mask_trace.specs.Steps.{InputBit, Public, Plain, Key, State, plain_bits, stretch, bits_of}
 use Rattle.mask_modes.specs.CounterMode.{block_count, counter}
 use Rattle.mask_modes.specs.Steps.{Mode, Enciphers, block_at, blocks, block_step, refresh_step, steps_from, steps_of, is_due}
 use Rattle.mask_modes.specs.Laws.{RunBits}
@@ -39,11 +39,11 @@ plain_bits-plain (b ∷ bs) = ap (λ l. b ∷ l) (plain_bits-plain bs)
 -- the message bits of a block are its bits
 pub plain_bits-block : (m : Mode) (i : ℕ) (block : List ℕ) → plain_bits (block_step m i block).inputs ≡ m.reading block
 plain_bits-block m i block =
-    let public = map Public (m.reading (counter m.block m.iv i)) in
-    plain_bits-append (each Key m.key ++ public) (map Plain (m.reading block))
-    ∙ ap₂ (λ (l k : List Bool). l ++ k)
-    (plain_bits-append (each Key m.key) public ∙ ap₂ (λ (l k : List Bool). l ++ k) (plain_bits-key m.key) (plain_bits-public (m.reading (counter m.block m.iv i))))
-    (plain_bits-plain (m.reading block))
+    let counted = m.reading (counter m.block m.iv i) in
+    plain_bits-append (each Key m.key) (map Public counted ++ map Plain (m.reading block))
+    ∙ ap₂ (λ (l k : List Bool). l ++ k) (plain_bits-key m.key)
+    (plain_bits-append (map Public counted) (map Plain (m.reading block))
+    ∙ ap₂ (λ (l k : List Bool). l ++ k) (plain_bits-public counted) (plain_bits-plain (m.reading block)))
 
 -- one refresh more, where one is due
 refreshes-more : (i : ℕ) → (suc i + 63) / 64 - 1 ≡ (i + 63) / 64 - 1 + cond (is_due i) 1 0

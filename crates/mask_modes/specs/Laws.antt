@@ -1,13 +1,13 @@
 -- What is proved of counter mode.
-use Rattle.std.specs.Prelude.{◌≡◌, ℕ, suc, pred, ◌+◌, ◌-◌, ◌*◌, ◌/◌, ◌%◌, ◌^◌, ◌<◌, ◌≤◌, Bool, List, [], ◌∷◌, ◌++◌, map, length, take, drop, All}
+use Rattle.std.specs.Prelude.{◌≡◌, ℕ, pred, ◌+◌, ◌-◌, ◌*◌, ◌/◌, ◌<◌, ◌≤◌, Bool, List, ◌++◌, map, length, take, All}
 use Rattle.mask_circuit.specs.Ring.{bits}
 use Rattle.mask_circuit.specs.Expansion.{draws}
 use Rattle.mask_shares.specs.Sharing.{unmasked}
-use Rattle.mask_trace.specs.Steps.{Registers, Step, IsStrongPlan, bits_of}
+use Rattle.mask_trace.specs.Steps.{Registers, IsStrongPlan, bits_of}
 use Rattle.mask_trace.specs.Traces.{BitShares, after, output_shares}
 use Rattle.mask_trace.specs.Privacy.{AreAlike}
-use Rattle.mask_modes.specs.CounterMode.{block_count, counter, ciphertext_from, counter_mode, xor_bytes}
-use Rattle.mask_modes.specs.Steps.{Mode, Enciphers, IsBlock, blocks, block_step, refresh_step, steps_from, steps_of, is_due}
+use Rattle.mask_modes.specs.CounterMode.{block_count, counter, ciphertext_from, xor_bytes}
+use Rattle.mask_modes.specs.Steps.{Mode, Enciphers, IsBlock, blocks, block_step, steps_from, steps_of}
 
 -- Whole blocks and what follows them: blocks, steps and ciphertext split there.
 pub record MessagesSplit : Type 0 where
@@ -52,11 +52,12 @@ key_of have = map (unmasked bits) have.key
 abbrev pub HasKey : ℕ → Mode → Registers BitShares → Type 0
 HasKey N m have = (length have.key ≡ m.key) × All (λ shares. length shares ≡ N) have.key
 
--- Each block comes out as its XOR with the encrypted counter, and the key stays what it is, in fresh shares or not.
+-- Whatever the tape, each block comes out as its XOR with the encrypted counter, and the key stays what it is, in fresh shares or
+-- not.
 pub record StepsEncrypt : Type 0 where
   pub encrypted : (N : ℕ) (m : Mode) (cipher : List Bool → List ℕ → List ℕ) (have : Registers BitShares) (i : ℕ) (block : List ℕ) (r : List Bool) →
-      2 ≤ N → Enciphers cipher m → HasKey N m have → IsBlock m block → bits_of N (block_step m i block ∷ []) ≤ length r →
+      2 ≤ N → Enciphers cipher m → HasKey N m have → IsBlock m block →
       map (unmasked bits) (output_shares N have (block_step m i block) r) ≡ m.reading (xor_bytes block (cipher (key_of have) (counter m.block m.iv i)))
   pub key_stays : (N : ℕ) (m : Mode) (cipher : List Bool → List ℕ → List ℕ) (have : Registers BitShares) (i : ℕ) (part : List (List ℕ)) (r : List Bool) →
-      2 ≤ N → Enciphers cipher m → HasKey N m have → All (IsBlock m) part → bits_of N (steps_from m i part) ≤ length r →
+      2 ≤ N → Enciphers cipher m → HasKey N m have →
       HasKey N m (after N have (steps_from m i part) r) × (key_of (after N have (steps_from m i part) r) ≡ key_of have)

@@ -4,7 +4,7 @@ use Rattle.mask_circuit.specs.Netlist.{Netlist, IsWellFormed}
 use Rattle.mask_circuit.specs.Value.{plain}
 use Rattle.mask_circuit.specs.Wires.{each}
 use Rattle.mask_circuit.specs.Acceptance.{IsStrong}
-use Rattle.mask_trace.specs.Steps.{InputBit, Public, Plain, Key, Nothing, AsKey, Step}
+use Rattle.mask_trace.specs.Steps.{Public, Plain, Key, Nothing, AsKey, Step}
 use Rattle.mask_modes.specs.CounterMode.{block_count, counter, xor_bytes}
 
 -- How a cipher's circuit is used: its inputs are the bits of the key, of a counter, and of a block of the message, where
@@ -29,7 +29,7 @@ blocks b message = each (block_at b message) (block_count b (length message))
 abbrev pub block_step : Mode → ℕ → List ℕ → Step
 block_step m i block = record {
   circuit = m.circuit;
-  inputs = each Key m.key ++ map Public (m.reading (counter m.block m.iv i)) ++ map Plain (m.reading block);
+  inputs = each Key m.key ++ (map Public (m.reading (counter m.block m.iv i)) ++ map Plain (m.reading block));
   keeps = Nothing;
 }
 
@@ -69,5 +69,5 @@ pub record Enciphers (cipher : List Bool → List ℕ → List ℕ) (m : Mode) :
   pub reads : (bytes : List ℕ) → length (m.reading bytes) ≡ 8 * length bytes
   pub is_block : (key : List Bool) (counter : List ℕ) → IsBlock m counter → IsBlock m (cipher key counter)
   pub value : (key : List Bool) (counter block : List ℕ) → length key ≡ m.key → IsBlock m counter → IsBlock m block →
-      plain m.circuit (key ++ m.reading counter ++ m.reading block) ≡ m.reading (xor_bytes block (cipher key counter))
+      plain m.circuit (key ++ (m.reading counter ++ m.reading block)) ≡ m.reading (xor_bytes block (cipher key counter))
   pub refreshes : (key : List Bool) → length key ≡ m.key → plain m.refresh key ≡ key

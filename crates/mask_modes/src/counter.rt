@@ -1,5 +1,5 @@
 //! What is proved of counter mode.
-ghost use Rattle.mask_modes.specs.Laws.{CiphertextFits, MessagesSplit, RunBits, StepsAreStrong};
+ghost use Rattle.mask_modes.specs.Laws.{CiphertextFits, MessagesSplit, RunBits, StepsAreStrong, StepsEncrypt};
 
 /// A message splits behind any whole blocks.
 pub fn messages_split()
@@ -19,4 +19,9 @@ pub fn run_bits()
 /// The steps of a message are a strong plan, and depend on the message in its bits alone.
 pub fn steps_are_strong()
     ensures { StepsAreStrong }
+{}
+
+/// Each block comes out as its XOR with the encrypted counter, and the key stays what it is.
+pub fn steps_encrypt()
+    ensures { StepsEncrypt }
 {}
