@@ -1,9 +1,12 @@
+pub mod Batches
 pub mod BlockCounts
+pub mod CiphertextBlocks
 mod CounterExamples
 pub mod Encrypting
 pub mod Keystreams
 pub mod Pieces
 pub mod Plans
+pub mod Readings
 pub mod Splitting
 pub mod TapeBits
 pub mod Unmasked

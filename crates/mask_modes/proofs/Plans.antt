@@ -76,10 +76,10 @@ module _ (m : Mode) (cipher : List Bool → List ℕ → List ℕ) (is : Enciphe
       plain = map Plain (m.reading block)
 
       publics : length public ≡ 8 * m.block
-      publics = length-map _ Public ∙ is.reads (counter m.block m.iv i) ∙ ap (λ (n : ℕ). 8 * n) (length-counter m.block m.iv i)
+      publics = length-map _ Public ∙ is.reads.count (counter m.block m.iv i) ∙ ap (λ (n : ℕ). 8 * n) (length-counter m.block m.iv i)
 
       plains : length plain ≡ 8 * m.block
-      plains = length-map _ Plain ∙ is.reads block ∙ ap (λ (n : ℕ). 8 * n) e
+      plains = length-map _ Plain ∙ is.reads.count block ∙ ap (λ (n : ℕ). 8 * n) e
 
   pub refresh_step_is_strong : IsStrongStep m.key 0 (refresh_step m)
   refresh_step_is_strong = record {
@@ -110,7 +110,7 @@ module _ (m : Mode) (cipher : List Bool → List ℕ → List ℕ) (is : Enciphe
       map-append without_message (each Key m.key) (public ++ map Plain (m.reading block))
       ∙ ap (λ l. map without_message (each Key m.key) ++ l)
       (map-append without_message public (map Plain (m.reading block))
-      ∙ ap (λ l. map without_message public ++ l) (hidden (m.reading block) (m.reading other) (is.reads block ∙ ap (λ (n : ℕ). 8 * n) e ∙ sym (is.reads other)))
+      ∙ ap (λ l. map without_message public ++ l) (hidden (m.reading block) (m.reading other) (is.reads.count block ∙ ap (λ (n : ℕ). 8 * n) e ∙ sym (is.reads.count other)))
       ∙ sym (map-append without_message public (map Plain (m.reading other))))
       ∙ sym (map-append without_message (each Key m.key) (public ++ map Plain (m.reading other)))
 

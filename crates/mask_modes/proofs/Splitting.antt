@@ -39,7 +39,7 @@ blocks-append b n front rest some whole =
     ∙ ap₂ (λ (l m : List (List ℕ)). l ++ m) (each-same _ _ n (λ i lt. block_at-front b n i front rest whole lt) ∙ ap (each (block_at b front)) (sym whole_count))
     (each-same _ _ (block_count b (length rest)) (λ i lt. block_at-rest b n i front rest whole))
 
-steps-append : (m : Mode) (i : ℕ) (front rest : List (List ℕ)) → steps_from m i (front ++ rest) ≡ steps_from m i front ++ steps_from m (i + length front) rest
+pub steps-append : (m : Mode) (i : ℕ) (front rest : List (List ℕ)) → steps_from m i (front ++ rest) ≡ steps_from m i front ++ steps_from m (i + length front) rest
 unfolding steps_from
 steps-append m i [] rest = let e : i ≡ i + 0 = omega arith in ap (λ (k : ℕ). steps_from m k rest) e
 steps-append m i (block ∷ front) rest =

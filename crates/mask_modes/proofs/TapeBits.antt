@@ -22,7 +22,7 @@ plain_bits-append (Key k ∷ is) js = plain_bits-append is js
 plain_bits-append (State k ∷ is) js = plain_bits-append is js
 
 -- the key and public bits are no message bits, and plain bits are
-plain_bits-key : (n : ℕ) → plain_bits (each Key n) ≡ []
+pub plain_bits-key : (n : ℕ) → plain_bits (each Key n) ≡ []
 plain_bits-key zero = refl
 plain_bits-key (suc n) = plain_bits-append (each Key n) (Key n ∷ []) ∙ rw (plain_bits-key n) refl
 
@@ -65,7 +65,7 @@ one_more ahead due refresh block rest before after count a e = omega arith
 module _ (N : ℕ) (m : Mode) (cipher : List Bool → List ℕ → List ℕ) (is : Enciphers cipher m) where
   stretch-block : (i : ℕ) (block : List ℕ) → length block ≡ m.block → stretch N (block_step m i block) ≡ pred N * (8 * m.block) + draws m.circuit N
   stretch-block i block e =
-      ap (λ (k : ℕ). pred N * k + draws m.circuit N) (ap length (plain_bits-block m i block) ∙ is.reads block ∙ ap (λ (k : ℕ). 8 * k) e)
+      ap (λ (k : ℕ). pred N * k + draws m.circuit N) (ap length (plain_bits-block m i block) ∙ is.reads.count block ∙ ap (λ (k : ℕ). 8 * k) e)
 
   stretch-refresh : stretch N (refresh_step m) ≡ draws m.refresh N
   stretch-refresh = ap (λ (l : List Bool). pred N * length l + draws m.refresh N) (plain_bits-key m.key) ∙ omega arith

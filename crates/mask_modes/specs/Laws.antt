@@ -1,13 +1,18 @@
 -- What is proved of counter mode.
-use Rattle.std.specs.Prelude.{◌≡◌, ℕ, pred, ◌+◌, ◌-◌, ◌*◌, ◌/◌, ◌<◌, ◌≤◌, Bool, List, ◌++◌, map, length, take, All}
+use Rattle.std.specs.Prelude.{◌≡◌, ℕ, pred, ◌+◌, ◌-◌, ◌*◌, ◌/◌, ◌%◌, ◌<◌, ◌≤◌, Bool, cond, List, [], ◌∷◌, ◌++◌, map, length, take, slice_index, All}
+use Rattle.std.specs.List.{concat}
+use Rattle.mask_bits.specs.Reading.{low, high}
 use Rattle.mask_circuit.specs.Ring.{bits}
+use Rattle.mask_circuit.specs.Wires.{each, joined}
 use Rattle.mask_circuit.specs.Expansion.{draws}
 use Rattle.mask_shares.specs.Sharing.{unmasked}
-use Rattle.mask_trace.specs.Steps.{Registers, IsStrongPlan, bits_of}
+use Rattle.mask_trace.specs.Steps.{Registers, IsStrongPlan, bits_of, sharing_bits}
 use Rattle.mask_trace.specs.Traces.{BitShares, after, output_shares}
 use Rattle.mask_trace.specs.Privacy.{AreAlike}
 use Rattle.mask_modes.specs.CounterMode.{block_count, counter, ciphertext_from, xor_bytes}
-use Rattle.mask_modes.specs.Steps.{Mode, Enciphers, IsBlock, blocks, block_step, steps_from, steps_of}
+use Rattle.mask_modes.specs.Steps.{Mode, Enciphers, IsBlock, block_at, blocks, block_step, refresh_step, steps_from, steps_of, is_due}
+use Rattle.mask_modes.specs.Readings.{AreBytes, IsReading}
+use Rattle.mask_modes.specs.Outputs.{ciphertext_block, handed_out, StandFor}
 
 -- Whole blocks and what follows them: blocks, steps and ciphertext split there.
 pub record MessagesSplit : Type 0 where
@@ -29,6 +34,25 @@ pub record CiphertextFits : Type 0 where
   pub decrypts : (b iv : ℕ) (cipher : List ℕ → List ℕ) (i : ℕ) (part : List ℕ) → 0 < b →
       ((block : List ℕ) → length block ≡ b → length (cipher block) ≡ b) →
       ciphertext_from b iv cipher i (ciphertext_from b iv cipher i part) ≡ part
+
+-- It is made of its blocks end to end: byte k is byte k % b of block k / b.
+pub record CiphertextInBlocks : Type 0 where
+  pub whole : (b iv : ℕ) (cipher : List ℕ → List ℕ) (i : ℕ) (part : List ℕ) → 0 < b →
+      ((block : List ℕ) → length block ≡ b → length (cipher block) ≡ b) →
+      ciphertext_from b iv cipher i part ≡ take (length part) (joined (ciphertext_block b iv cipher i part) (block_count b (length part)))
+  pub byte : (b iv : ℕ) (cipher : List ℕ → List ℕ) (i : ℕ) (part : List ℕ) (k : ℕ) → 0 < b →
+      ((block : List ℕ) → length block ≡ b → length (cipher block) ≡ b) → k < length part →
+      slice_index (ciphertext_from b iv cipher i part) k ≡ slice_index (ciphertext_block b iv cipher i part (k / b)) (k % b)
+
+-- The steps of up to 64 blocks that follow 64 blocks, 128 and so on: the refresh, if one is due, and then a step for each
+-- block. How many coins share the message bits of either.
+pub record BatchesStepByStep : Type 0 where
+  pub steps : (m : Mode) (i : ℕ) (part : List ℕ) → i % 64 ≡ 0 → 1 ≤ block_count m.block (length part) → block_count m.block (length part) ≤ 64 →
+      steps_from m i (blocks m.block part)
+      ≡ cond (is_due i) (refresh_step m ∷ []) [] ++ each (λ l. block_step m (i + l) (block_at m.block part l)) (block_count m.block (length part))
+  pub block_coins : (N : ℕ) (m : Mode) (cipher : List Bool → List ℕ → List ℕ) (i : ℕ) (block : List ℕ) → Enciphers cipher m → IsBlock m block →
+      sharing_bits N (block_step m i block) ≡ pred N * (8 * m.block)
+  pub refresh_coins : (N : ℕ) (m : Mode) → sharing_bits N (refresh_step m) ≡ 0
 
 -- The bits that a run takes from the tape: for each block those that share it and those that the circuit draws, and for
 -- each 64 blocks but the first those of the refresh.
@@ -61,3 +85,19 @@ pub record StepsEncrypt : Type 0 where
   pub key_stays : (N : ℕ) (m : Mode) (cipher : List Bool → List ℕ → List ℕ) (have : Registers BitShares) (i : ℕ) (part : List (List ℕ)) (r : List Bool) →
       2 ≤ N → Enciphers cipher m → HasKey N m have →
       HasKey N m (after N have (steps_from m i part) r) × (key_of (after N have (steps_from m i part) r) ≡ key_of have)
+
+-- Both readings of bytes are readings.
+abbrev pub BytesAreRead : Type 0
+BytesAreRead = IsReading low × IsReading high
+
+-- What a run hands out stands for the ciphertext, whatever the tape: the blocks that the outputs of the steps of a part
+-- stand for, end to end, begin with the ciphertext of the part. So do those of its blocks one by one, each on a tape of its own.
+pub record OutputsStandForCiphertext : Type 0 where
+  pub run : (N : ℕ) (m : Mode) (cipher : List Bool → List ℕ → List ℕ) (have : Registers BitShares) (i : ℕ) (part : List ℕ) (r : List Bool) (out : List (List ℕ)) →
+      2 ≤ N → Enciphers cipher m → HasKey N m have → AreBytes part →
+      StandFor m (handed_out N have (steps_from m i (blocks m.block part)) r) out →
+      take (length part) (concat out) ≡ ciphertext_from m.block m.iv (cipher (key_of have)) i part
+  pub lanes : (N : ℕ) (m : Mode) (cipher : List Bool → List ℕ → List ℕ) (have : Registers BitShares) (i : ℕ) (part : List ℕ) (r : ℕ → List Bool) (out : List (List ℕ)) →
+      2 ≤ N → Enciphers cipher m → HasKey N m have → AreBytes part →
+      StandFor m (each (λ l. output_shares N have (block_step m (i + l) (block_at m.block part l)) (r l)) (block_count m.block (length part))) out →
+      take (length part) (concat out) ≡ ciphertext_from m.block m.iv (cipher (key_of have)) i part

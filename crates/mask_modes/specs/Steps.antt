@@ -5,6 +5,7 @@ use Rattle.mask_circuit.specs.Value.{plain}
 use Rattle.mask_circuit.specs.Wires.{each}
 use Rattle.mask_circuit.specs.Acceptance.{IsStrong}
 use Rattle.mask_trace.specs.Steps.{Public, Plain, Key, Nothing, AsKey, Step}
+use Rattle.mask_modes.specs.Readings.{AreBytes, IsReading}
 use Rattle.mask_modes.specs.CounterMode.{block_count, counter, xor_bytes}
 
 -- How a cipher's circuit is used: its inputs are the bits of the key, of a counter, and of a block of the message, where
@@ -52,7 +53,7 @@ steps_of m message = steps_from m 0 (blocks m.block message)
 
 -- a block: so many bytes
 abbrev pub IsBlock : Mode → List ℕ → Type 0
-IsBlock m bytes = (length bytes ≡ m.block) × All (λ byte. byte < 2 ^ 8) bytes
+IsBlock m bytes = (length bytes ≡ m.block) × AreBytes bytes
 
 -- What a mode takes from a cipher and its circuits: cipher encrypts a block under the bits of a key, and the circuits,
 -- which are strong, do what they are for.
@@ -66,7 +67,7 @@ pub record Enciphers (cipher : List Bool → List ℕ → List ℕ) (m : Mode) :
   pub outputs : length m.circuit.outputs ≡ 8 * m.block
   pub refresh_inputs : m.refresh.inputs ≡ m.key
   pub refresh_outputs : length m.refresh.outputs ≡ m.key
-  pub reads : (bytes : List ℕ) → length (m.reading bytes) ≡ 8 * length bytes
+  pub reads : IsReading m.reading
   pub is_block : (key : List Bool) (counter : List ℕ) → IsBlock m counter → IsBlock m (cipher key counter)
   pub value : (key : List Bool) (counter block : List ℕ) → length key ≡ m.key → IsBlock m counter → IsBlock m block →
       plain m.circuit (key ++ (m.reading counter ++ m.reading block)) ≡ m.reading (xor_bytes block (cipher key counter))

@@ -1,5 +1,6 @@
 //! What is proved of counter mode.
-ghost use Rattle.mask_modes.specs.Laws.{CiphertextFits, MessagesSplit, RunBits, StepsAreStrong, StepsEncrypt};
+ghost use Rattle.mask_modes.specs.Laws.{BatchesStepByStep, BytesAreRead, CiphertextFits, CiphertextInBlocks, MessagesSplit};
+ghost use Rattle.mask_modes.specs.Laws.{RunBits, StepsAreStrong, StepsEncrypt};
 
 /// A message splits behind any whole blocks.
 pub fn messages_split()
@@ -9,6 +10,16 @@ pub fn messages_split()
 /// A ciphertext is as long as its message, begins with that of each beginning, and encrypts to the message.
 pub fn ciphertext_fits()
     ensures { CiphertextFits }
+{}
+
+/// A ciphertext is made of its blocks end to end.
+pub fn ciphertext_in_blocks()
+    ensures { CiphertextInBlocks }
+{}
+
+/// The steps of up to 64 blocks at once: a refresh first, if one is due, and then a step for each block.
+pub fn batches_step_by_step()
+    ensures { BatchesStepByStep }
 {}
 
 /// How many bits a run takes from the tape.
@@ -24,4 +35,9 @@ pub fn steps_are_strong()
 /// Each block comes out as its XOR with the encrypted counter, and the key stays what it is.
 pub fn steps_encrypt()
     ensures { StepsEncrypt }
+{}
+
+/// Bytes are known by their bits, read low first or high first.
+pub fn bytes_are_read()
+    ensures { BytesAreRead }
 {}
