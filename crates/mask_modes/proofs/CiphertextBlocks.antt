@@ -8,7 +8,7 @@ use Rattle.std.proofs.Math.Nat.{div-mul-le_self}
 use Rattle.mask_circuit.specs.Wires.{joined}
 use Rattle.mask_circuit.proofs.Places.{length-joined}
 use Rattle.mask_gadget.proofs.Made.{joined-same}
-use Rattle.mask_modes.specs.CounterMode.{block_count, counter, keystream, ciphertext_from, xor_bytes}
+use Rattle.mask_modes.specs.CounterMode.{MakesBlocks, block_count, counter, keystream, ciphertext_from, xor_bytes}
 use Rattle.mask_modes.specs.Steps.{block_at}
 use Rattle.mask_modes.specs.Outputs.{ciphertext_block}
 use Rattle.mask_modes.specs.Laws.{CiphertextInBlocks}
@@ -55,10 +55,10 @@ joined_blocks b part some =
     ap (take b) (sym (drop-append-le (j * b) part (replicate b 0) (omega arith))))
     ∙ pieces b n (part ++ replicate b 0)
 
-module _ (b iv : ℕ) (cipher : List ℕ → List ℕ) (some : 0 < b) (blocks : (block : List ℕ) → length block ≡ b → length (cipher block) ≡ b) where
+module _ (b iv : ℕ) (cipher : List ℕ → List ℕ) (some : 0 < b) (makes : MakesBlocks b iv cipher) where
   length-ciphertext_block : (i : ℕ) (part : List ℕ) (j : ℕ) → length (ciphertext_block b iv cipher i part j) ≡ b
   length-ciphertext_block i part j =
-      let long = blocks (counter b iv (i + j)) (length-counter b iv (i + j)) in
+      let long = makes (i + j) in
       length-xor_bytes (block_at b part j) (cipher (counter b iv (i + j))) (omega (arith, length-block_at b part j)) ∙ length-block_at b part j
 
   pub ciphertext_whole : (i : ℕ) (part : List ℕ) → ciphertext_from b iv cipher i part ≡ take (length part) (joined (ciphertext_block b iv cipher i part) (block_count b (length part)))
@@ -74,7 +74,7 @@ module _ (b iv : ℕ) (cipher : List ℕ → List ℕ) (some : 0 < b) (blocks : 
       ap (λ l. xor_bytes l (keystream b iv cipher i n)) (sym filled)
       ∙ xor_bytes-take (length part) parts (keystream b iv cipher i n)
       ∙ ap (take (length part))
-      (sym (joined_xors (block_at b part) (λ j. cipher (counter b iv (i + j))) b n (length-block_at b part) (λ j. blocks (counter b iv (i + j)) (length-counter b iv (i + j)))))
+      (sym (joined_xors (block_at b part) (λ j. cipher (counter b iv (i + j))) b n (length-block_at b part) (λ j. makes (i + j))))
 
   ciphertext_byte : (i : ℕ) (part : List ℕ) (k : ℕ) → k < length part →
       get_or (ciphertext_from b iv cipher i part) k 0 ≡ get_or (ciphertext_block b iv cipher i part (k / b)) (k % b) 0
@@ -89,6 +89,6 @@ module _ (b iv : ℕ) (cipher : List ℕ → List ℕ) (some : 0 < b) (blocks : 
 
 pub ciphertext_in_blocks : CiphertextInBlocks
 ciphertext_in_blocks = record {
-  whole = λ b iv cipher i part some blocks. ciphertext_whole b iv cipher some blocks i part;
-  byte = λ b iv cipher i part k some blocks lt. ciphertext_byte b iv cipher some blocks i part k lt;
+  whole = λ b iv cipher i part some makes. ciphertext_whole b iv cipher some makes i part;
+  byte = λ b iv cipher i part k some makes lt. ciphertext_byte b iv cipher some makes i part k lt;
 }

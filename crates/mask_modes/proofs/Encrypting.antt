@@ -15,17 +15,9 @@ use Rattle.mask_trace.specs.Traces.{BitShares, output_shares, after_step, after}
 use Rattle.mask_modes.specs.CounterMode.{counter, xor_bytes}
 use Rattle.mask_modes.specs.Steps.{Mode, Enciphers, IsBlock, block_step, refresh_step, steps_from, is_due}
 use Rattle.mask_modes.specs.Laws.{StepsEncrypt, HasKey, key_of}
-use Rattle.mask_modes.proofs.Keystreams.{length-counter}
+use Rattle.mask_modes.proofs.Keystreams.{counter_is_block}
 use Rattle.mask_modes.proofs.Plans.{block_step_is_strong, refresh_step_is_strong}
 use Rattle.mask_modes.proofs.Unmasked.{stands_for, outputs_stand, length-output_shares, outputs_have_shares}
-
--- a counter is a block
-pub counter_is_block : (m : Mode) (i : ℕ) → IsBlock m (counter m.block m.iv i)
-counter_is_block m i = (
-  length-counter m.block m.iv i,
-  λ k d lt. let l : k < m.block = omega (arith, length-counter m.block m.iv i) in
-      subst (λ (byte : ℕ). byte < 2 ^ 8) (sym (get_or-each _ m.block k d l)) (mod_below _ (2 ^ 8) (pow_pos 8)),
-)
 
 module _ (have : Registers BitShares) where
   key_stands : map (stands_for have) (each Key (length have.key)) ≡ key_of have
@@ -38,7 +30,7 @@ module _ (have : Registers BitShares) where
   plains_stand bs = map-map (stands_for have) Plain bs ∙ map-id bs
 
 module _ (N : ℕ) (m : Mode) (cipher : List Bool → List ℕ → List ℕ) (two : 2 ≤ N) (is : Enciphers cipher m) where
-  encrypted : (have : Registers BitShares) (i : ℕ) (block : List ℕ) (r : List Bool) → HasKey N m have → IsBlock m block →
+  pub encrypted : (have : Registers BitShares) (i : ℕ) (block : List ℕ) (r : List Bool) → HasKey N m have → IsBlock m block →
       map (unmasked bits) (output_shares N have (block_step m i block) r) ≡ m.reading (xor_bytes block (cipher (key_of have) (counter m.block m.iv i)))
   encrypted have i block r (size, shares) block_is =
       let public = m.reading (counter m.block m.iv i) in
@@ -55,7 +47,7 @@ module _ (N : ℕ) (m : Mode) (cipher : List Bool → List ℕ → List ℕ) (tw
       ∙ is.value (key_of have) (counter m.block m.iv i) block (length-map have.key _ ∙ size) (counter_is_block m i) block_is
 
   -- a refresh gives the key new shares, and no other value
-  refreshed : (have : Registers BitShares) (r : List Bool) → HasKey N m have →
+  pub refreshed : (have : Registers BitShares) (r : List Bool) → HasKey N m have →
       HasKey N m (after_step N have (refresh_step m) r) × (key_of (after_step N have (refresh_step m) r) ≡ key_of have)
   refreshed have r (size, shares) =
       let strong = refresh_step_is_strong m cipher is in

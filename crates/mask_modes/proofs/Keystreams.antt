@@ -1,10 +1,13 @@
 -- Keystreams in parts, and what is made with them.
-use Rattle.std.proofs.Common.{◌≡◌, ℕ, ◌+◌, ◌-◌, ◌*◌, ◌<◌, ◌≤◌, List, ◌++◌, length, take, ap, sym, ◌∙◌, arith, length-append, add_assoc}
+use Rattle.std.proofs.Common.{◌≡◌, ◌^◌, subst, Bool, All, ℕ, ◌+◌, ◌-◌, ◌*◌, ◌<◌, ◌≤◌, List, ◌++◌, length, take, ap, sym, ◌∙◌, arith, length-append, add_assoc}
 use Rattle.std.proofs.lemmas.List.{length-take}
+use Rattle.std.proofs.lemmas.Nat.{mod_below, pow_pos}
+use Rattle.mask_shares.proofs.Lists.{get_or-each}
 use Rattle.mask_circuit.specs.Wires.{joined}
 use Rattle.mask_circuit.proofs.Places.{length-each, length-joined}
 use Rattle.mask_gadget.proofs.Made.{joined-same}
-use Rattle.mask_modes.specs.CounterMode.{block_count, counter, keystream, ciphertext_from, xor_bytes}
+use Rattle.mask_modes.specs.CounterMode.{MakesBlocks, block_count, counter, keystream, ciphertext_from, xor_bytes}
+use Rattle.mask_modes.specs.Steps.{Mode, Enciphers, IsBlock}
 use Rattle.mask_modes.specs.Laws.{CiphertextFits}
 use Rattle.mask_modes.proofs.BlockCounts.{block_count-add, block_count-whole, le-block_count, block_count_grows}
 use Rattle.mask_modes.proofs.Pieces.{joined-add}
@@ -13,10 +16,21 @@ use Rattle.mask_modes.proofs.Xors.{length-xor_bytes, xor_bytes-append, xor_bytes
 pub length-counter : (b iv i : ℕ) → length (counter b iv i) ≡ b
 length-counter b iv i = length-each _ b
 
-module _ (b iv : ℕ) (cipher : List ℕ → List ℕ) (some : 0 < b) (blocks : (block : List ℕ) → length block ≡ b → length (cipher block) ≡ b) where
+-- a counter is a block
+pub counter_is_block : (m : Mode) (i : ℕ) → IsBlock m (counter m.block m.iv i)
+counter_is_block m i = (
+  length-counter m.block m.iv i,
+  λ k d lt. let l : k < m.block = omega (arith, length-counter m.block m.iv i) in
+      subst (λ (byte : ℕ). byte < 2 ^ 8) (sym (get_or-each _ m.block k d l)) (mod_below _ (2 ^ 8) (pow_pos 8)),
+)
+
+pub makes_blocks : (m : Mode) (cipher : List Bool → List ℕ → List ℕ) (key : List Bool) → Enciphers cipher m → MakesBlocks m.block m.iv (cipher key)
+makes_blocks m cipher key is i = (is.is_block key (counter m.block m.iv i) (counter_is_block m i)).0
+
+module _ (b iv : ℕ) (cipher : List ℕ → List ℕ) (some : 0 < b) (makes : MakesBlocks b iv cipher) where
   length-keystream : (i n : ℕ) → length (keystream b iv cipher i n) ≡ n * b
   unfolding keystream
-  length-keystream i n = length-joined (λ j. cipher (counter b iv (i + j))) b n (λ j. blocks (counter b iv (i + j)) (length-counter b iv (i + j)))
+  length-keystream i n = length-joined (λ j. cipher (counter b iv (i + j))) b n (λ j. makes (i + j))
 
   keystream-add : (i m n : ℕ) → keystream b iv cipher i (m + n) ≡ keystream b iv cipher i m ++ keystream b iv cipher (i + m) n
   unfolding keystream
@@ -69,7 +83,8 @@ module _ (b iv : ℕ) (cipher : List ℕ → List ℕ) (some : 0 < b) (blocks : 
 
 pub ciphertext_fits : CiphertextFits
 ciphertext_fits = record {
-  as_long = λ b iv cipher i part some blocks. length-ciphertext b iv cipher some blocks i part;
-  front = λ b iv cipher i n part some blocks. ciphertext-take b iv cipher some blocks i n part;
-  decrypts = λ b iv cipher i part some blocks. ciphertext_twice b iv cipher some blocks i part;
+  blocks = makes_blocks;
+  as_long = λ b iv cipher i part some makes. length-ciphertext b iv cipher some makes i part;
+  front = λ b iv cipher i n part some makes. ciphertext-take b iv cipher some makes i n part;
+  decrypts = λ b iv cipher i part some makes. ciphertext_twice b iv cipher some makes i part;
 }

@@ -3,6 +3,7 @@ pub mod BlockCounts
 pub mod CiphertextBlocks
 mod CounterExamples
 pub mod Encrypting
+pub mod HandedOut
 pub mod Keystreams
 pub mod Pieces
 pub mod Plans

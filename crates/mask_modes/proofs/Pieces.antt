@@ -1,5 +1,5 @@
 -- Lists that are made by number, in two parts.
-use Rattle.std.proofs.Common.{◌≡◌, ℕ, zero, suc, ◌+◌, List, [], ◌∷◌, ◌++◌, ap, sym, ◌∙◌, append_assoc, append-nil, add-zero, add-suc}
+use Rattle.std.proofs.Common.{◌≡◌, ℕ, zero, suc, ◌+◌, List, [], ◌∷◌, ◌++◌, refl, ap, sym, ◌∙◌, append_assoc, append-nil, add-zero, add-suc}
 use Rattle.mask_circuit.specs.Wires.{each, joined}
 
 pub each-add : {A : Type 0} (f : ℕ → A) (m n : ℕ) → each f (m + n) ≡ each f m ++ each (λ k. f (m + k)) n
@@ -15,3 +15,8 @@ joined-add f m (suc n) =
     ap (joined f) (add-suc m n)
     ∙ ap (λ l. l ++ f (m + n)) (joined-add f m n)
     ∙ append_assoc (joined f m) (joined (λ k. f (m + k)) n) (f (m + n))
+
+-- the first, and then the others
+pub each-first : {A : Type 0} (f : ℕ → A) (n : ℕ) → each f (suc n) ≡ f 0 ∷ each (λ i. f (suc i)) n
+each-first f zero = refl
+each-first f (suc n) = ap (λ l. l ++ f (suc n) ∷ []) (each-first f n)

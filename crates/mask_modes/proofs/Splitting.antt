@@ -53,5 +53,5 @@ messages_split = record {
   cut = blocks-append;
   count = λ b n front some whole. length-each _ _ ∙ (ap (block_count b) whole ∙ block_count-whole b n some);
   steps = steps-append;
-  ciphertext = λ b iv cipher i n front rest some blocks whole. ciphertext-append b iv cipher some blocks i n front rest whole;
+  ciphertext = λ b iv cipher i n front rest some makes whole. ciphertext-append b iv cipher some makes i n front rest whole;
 }

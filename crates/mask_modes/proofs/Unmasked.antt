@@ -17,14 +17,10 @@ use Rattle.mask_shares.proofs.Lists.{each-same}
 use Rattle.mask_eval.proofs.LaneRuns.{unmasked_is, each_map}
 use Rattle.mask_eval.proofs.Shared.{shared-unmasks}
 use Rattle.mask_trace.specs.Steps.{InputBit, Public, Plain, Key, State, Registers, Step, IsThere}
+use Rattle.mask_modes.proofs.Pieces.{each-first}
 use Rattle.mask_trace.specs.Traces.{BitShares, input_shares, gate_tape, output_shares}
 
 -- SHARES
-
--- the first, and then the others
-each-first : {A : Type 0} (f : ℕ → A) (n : ℕ) → each f (suc n) ≡ f 0 ∷ each (λ i. f (suc i)) n
-each-first f zero = refl
-each-first f (suc n) = ap (λ l. l ++ f (suc n) ∷ []) (each-first f n)
 
 -- no shares, read as n of them
 no_shares : (n : ℕ) → xor_all (each (listed bits []) n) ≡ false

@@ -1,6 +1,6 @@
 -- Counter mode (ISO/IEC 10116): the message is XORed with a keystream, the encryptions of a counter that goes up by one
 -- from block to block. Blocks have b bytes, and the IV is the first counter.
-use Rattle.std.specs.Prelude.{ℕ, suc, ◌+◌, ◌-◌, ◌*◌, ◌/◌, ◌%◌, ◌^◌, List, [], ◌∷◌, length, bit_xor}
+use Rattle.std.specs.Prelude.{◌≡◌, ℕ, suc, ◌+◌, ◌-◌, ◌*◌, ◌/◌, ◌%◌, ◌^◌, List, [], ◌∷◌, length, bit_xor}
 use Rattle.mask_circuit.specs.Wires.{each, joined}
 
 -- the XOR of bytes place by place, as long as the shorter list
@@ -16,6 +16,10 @@ bytes_of n x = each (λ j. x / 2 ^ (8 * (n - suc j)) % 2 ^ 8) n
 -- the counter of block i: the IV plus i, where the greatest number is followed by 0
 abbrev pub counter : ℕ → ℕ → ℕ → List ℕ
 counter b iv i = bytes_of b ((iv + i) % 2 ^ (8 * b))
+
+-- a cipher makes a block of each counter
+abbrev pub MakesBlocks : ℕ → ℕ → (List ℕ → List ℕ) → Type 0
+MakesBlocks b iv cipher = (i : ℕ) → length (cipher (counter b iv i)) ≡ b
 
 -- how many blocks so many bytes fill, the last one perhaps in part
 abbrev pub block_count : ℕ → ℕ → ℕ

@@ -9,7 +9,7 @@ use Rattle.mask_shares.specs.Sharing.{unmasked}
 use Rattle.mask_trace.specs.Steps.{Registers, IsStrongPlan, bits_of, sharing_bits}
 use Rattle.mask_trace.specs.Traces.{BitShares, after, output_shares}
 use Rattle.mask_trace.specs.Privacy.{AreAlike}
-use Rattle.mask_modes.specs.CounterMode.{block_count, counter, ciphertext_from, xor_bytes}
+use Rattle.mask_modes.specs.CounterMode.{MakesBlocks, block_count, counter, ciphertext_from, xor_bytes}
 use Rattle.mask_modes.specs.Steps.{Mode, Enciphers, IsBlock, block_at, blocks, block_step, refresh_step, steps_from, steps_of, is_due}
 use Rattle.mask_modes.specs.Readings.{AreBytes, IsReading}
 use Rattle.mask_modes.specs.Outputs.{ciphertext_block, handed_out, StandFor}
@@ -19,29 +19,24 @@ pub record MessagesSplit : Type 0 where
   pub cut : (b n : ℕ) (front rest : List ℕ) → 0 < b → length front ≡ n * b → blocks b (front ++ rest) ≡ blocks b front ++ blocks b rest
   pub count : (b n : ℕ) (front : List ℕ) → 0 < b → length front ≡ n * b → length (blocks b front) ≡ n
   pub steps : (m : Mode) (i : ℕ) (front rest : List (List ℕ)) → steps_from m i (front ++ rest) ≡ steps_from m i front ++ steps_from m (i + length front) rest
-  pub ciphertext : (b iv : ℕ) (cipher : List ℕ → List ℕ) (i n : ℕ) (front rest : List ℕ) → 0 < b →
-      ((block : List ℕ) → length block ≡ b → length (cipher block) ≡ b) → length front ≡ n * b →
+  pub ciphertext : (b iv : ℕ) (cipher : List ℕ → List ℕ) (i n : ℕ) (front rest : List ℕ) → 0 < b → MakesBlocks b iv cipher → length front ≡ n * b →
       ciphertext_from b iv cipher i (front ++ rest) ≡ ciphertext_from b iv cipher i front ++ ciphertext_from b iv cipher (i + n) rest
 
--- The ciphertext is as long as the message, and that of a beginning of the message is a beginning of it. Encrypting it
+-- An enciphering makes blocks, and so the ciphertext is as long as the message, and that of a beginning of the message is a beginning of it. Encrypting it
 -- again gives the message.
 pub record CiphertextFits : Type 0 where
-  pub as_long : (b iv : ℕ) (cipher : List ℕ → List ℕ) (i : ℕ) (part : List ℕ) → 0 < b →
-      ((block : List ℕ) → length block ≡ b → length (cipher block) ≡ b) → length (ciphertext_from b iv cipher i part) ≡ length part
-  pub front : (b iv : ℕ) (cipher : List ℕ → List ℕ) (i n : ℕ) (part : List ℕ) → 0 < b →
-      ((block : List ℕ) → length block ≡ b → length (cipher block) ≡ b) →
+  pub blocks : (m : Mode) (cipher : List Bool → List ℕ → List ℕ) (key : List Bool) → Enciphers cipher m → MakesBlocks m.block m.iv (cipher key)
+  pub as_long : (b iv : ℕ) (cipher : List ℕ → List ℕ) (i : ℕ) (part : List ℕ) → 0 < b → MakesBlocks b iv cipher → length (ciphertext_from b iv cipher i part) ≡ length part
+  pub front : (b iv : ℕ) (cipher : List ℕ → List ℕ) (i n : ℕ) (part : List ℕ) → 0 < b → MakesBlocks b iv cipher →
       ciphertext_from b iv cipher i (take n part) ≡ take n (ciphertext_from b iv cipher i part)
-  pub decrypts : (b iv : ℕ) (cipher : List ℕ → List ℕ) (i : ℕ) (part : List ℕ) → 0 < b →
-      ((block : List ℕ) → length block ≡ b → length (cipher block) ≡ b) →
+  pub decrypts : (b iv : ℕ) (cipher : List ℕ → List ℕ) (i : ℕ) (part : List ℕ) → 0 < b → MakesBlocks b iv cipher →
       ciphertext_from b iv cipher i (ciphertext_from b iv cipher i part) ≡ part
 
 -- It is made of its blocks end to end: byte k is byte k % b of block k / b.
 pub record CiphertextInBlocks : Type 0 where
-  pub whole : (b iv : ℕ) (cipher : List ℕ → List ℕ) (i : ℕ) (part : List ℕ) → 0 < b →
-      ((block : List ℕ) → length block ≡ b → length (cipher block) ≡ b) →
+  pub whole : (b iv : ℕ) (cipher : List ℕ → List ℕ) (i : ℕ) (part : List ℕ) → 0 < b → MakesBlocks b iv cipher →
       ciphertext_from b iv cipher i part ≡ take (length part) (joined (ciphertext_block b iv cipher i part) (block_count b (length part)))
-  pub byte : (b iv : ℕ) (cipher : List ℕ → List ℕ) (i : ℕ) (part : List ℕ) (k : ℕ) → 0 < b →
-      ((block : List ℕ) → length block ≡ b → length (cipher block) ≡ b) → k < length part →
+  pub byte : (b iv : ℕ) (cipher : List ℕ → List ℕ) (i : ℕ) (part : List ℕ) (k : ℕ) → 0 < b → MakesBlocks b iv cipher → k < length part →
       slice_index (ciphertext_from b iv cipher i part) k ≡ slice_index (ciphertext_block b iv cipher i part (k / b)) (k % b)
 
 -- The steps of up to 64 blocks that follow 64 blocks, 128 and so on: the refresh, if one is due, and then a step for each

@@ -1,6 +1,6 @@
 //! What is proved of counter mode.
 ghost use Rattle.mask_modes.specs.Laws.{BatchesStepByStep, BytesAreRead, CiphertextFits, CiphertextInBlocks, MessagesSplit};
-ghost use Rattle.mask_modes.specs.Laws.{RunBits, StepsAreStrong, StepsEncrypt};
+ghost use Rattle.mask_modes.specs.Laws.{OutputsStandForCiphertext, RunBits, StepsAreStrong, StepsEncrypt};
 
 /// A message splits behind any whole blocks.
 pub fn messages_split()
@@ -40,4 +40,9 @@ pub fn steps_encrypt()
 /// Bytes are known by their bits, read low first or high first.
 pub fn bytes_are_read()
     ensures { BytesAreRead }
+{}
+
+/// What a run hands out stands for the ciphertext.
+pub fn outputs_stand_for_ciphertext()
+    ensures { OutputsStandForCiphertext }
 {}
