@@ -1,11 +1,13 @@
 -- The steps of a run as the calls of a whole run in the probing model: the bits of the key and of the message are its
 -- variables.
-use Rattle.std.specs.Prelude.{◌≡◌, ℕ, suc, ◌+◌, ◌<◌, ◌≤◌, Bool, false, List, [], ◌∷◌, ◌++◌, length, slice_index_or, All}
-use Rattle.mask_circuit.specs.Netlist.{Netlist, IsWellFormed}
-use Rattle.mask_circuit.specs.Wires.{each}
-use Rattle.mask_circuit.specs.Acceptance.{IsStrong}
+use Rattle.std.specs.Prelude.{ℕ, suc, pred, ◌+◌, Bool, false, List, [], ◌∷◌, ◌++◌, length, take, drop, slice_index_or}
+use Rattle.mask_circuit.specs.Netlist.{Netlist}
+use Rattle.mask_circuit.specs.Ring.{bits}
+use Rattle.mask_circuit.specs.Wires.{Shares, each}
+use Rattle.mask_circuit.specs.Sharing.{all_listed, all_shared}
 use Rattle.mask_laws.specs.Runs.{Origin, Public, Variable, Output, Call}
 use Rattle.mask_trace.specs.Steps as steps
+use Rattle.mask_trace.specs.Traces.{BitShares, gate_tape}
 
 -- the origins of the inputs of a step, where its message bits are the variables from v on
 abbrev pub origins : steps.Registers Origin → ℕ → List steps.InputBit → List Origin
@@ -37,3 +39,17 @@ calls_of n ss = calls_from (with_key n) n 0 ss
 unfoldable pub message_bits : List steps.Step → List Bool
 message_bits [] = []
 message_bits (s ∷ ss) = steps.plain_bits s.inputs ++ message_bits ss
+
+-- the coins that share them, of the tape r of all steps ..
+unfoldable pub message_coins : ℕ → List steps.Step → List Bool → List Bool
+message_coins N [] r = []
+message_coins N (s ∷ ss) r = take (steps.sharing_bits N s) r ++ message_coins N ss (drop (steps.stretch N s) r)
+
+-- .. and the coins that products and refreshes draw
+unfoldable pub gate_coins : ℕ → List steps.Step → List Bool → List Bool
+gate_coins N [] r = []
+gate_coins N (s ∷ ss) r = gate_tape N s r ++ gate_coins N ss (drop (steps.stretch N s) r)
+
+-- the shares of all variables: those of the key, and then those of the message bits
+abbrev pub variables : ℕ → List BitShares → List steps.Step → List Bool → ℕ → Shares Bool
+variables N key ss r = all_listed bits (key ++ all_shared bits (pred N) (message_bits ss) (message_coins N ss r))

@@ -1,5 +1,6 @@
 pub mod Calls
 pub mod Drawing
+pub mod Lanes
 pub mod Laws
 pub mod Privacy
 pub mod Steps

@@ -36,12 +36,13 @@ without_message (Plain b) = Plain false
 without_message (Key k) = Key k
 without_message (State k) = State k
 
+-- the same step, whatever the message bits
+abbrev pub blank : Step → Step
+blank s = record { circuit = s.circuit; inputs = map without_message s.inputs; keeps = s.keeps }
+
 -- steps that are the same but for the message bits
 abbrev pub AreAlike : List Step → List Step → Type 0
 AreAlike ss ts = map blank ss ≡ map blank ts
-  where
-    blank : Step → Step
-    blank s = record s { inputs = map without_message s.inputs }
 
 -- Privacy of a run with a key of n bits: what any t wires of all its evaluations show, t at most N - 1, has over all
 -- sharings of the key and all tapes the same distribution for any two keys and any two messages.

@@ -1,5 +1,5 @@
 -- The trace of a run: the evaluations of its steps, each with the next stretch of the tape.
-use Rattle.std.specs.Prelude.{ℕ, pred, ◌*◌, Bool, List, [], ◌∷◌, map, length, take, drop, slice_index_or}
+use Rattle.std.specs.Prelude.{ℕ, pred, Bool, List, [], ◌∷◌, take, drop, slice_index_or}
 use Rattle.std.specs.List.{flat_map}
 use Rattle.mask_circuit.specs.Ring.{bits}
 use Rattle.mask_circuit.specs.Wires.{each, on_first}

@@ -1,4 +1,6 @@
 //! What a run is, as data, and what is proved of every run.
 #![tactic(auto)]
 
+pub mod lanes;
 pub mod laws;
+pub mod privacy;
