@@ -7,7 +7,8 @@ use Rattle.mask_modes.specs.CounterMode.{block_count}
 use Rattle.mask_modes.specs.Steps.{Mode, block_at, block_step, refresh_step, steps_from, is_due}
 use Rattle.mask_modes.specs.Laws.{BatchesStepByStep}
 use Rattle.mask_modes.proofs.Splitting.{steps-append}
-use Rattle.mask_modes.proofs.TapeBits.{plain_bits-block, plain_bits-key}
+use Rattle.mask_modes.proofs.TapeBits.{plain_bits-block}
+use Rattle.mask_trace.proofs.Inputs.{inputs_stand_in_parts}
 
 -- no refresh is due ahead of blocks 1 to 63 behind whole 64s
 none_due : (i n : ℕ) → i % 64 ≡ 0 → 1 ≤ n → n < 64 → is_due (i + n) ≡ false
@@ -41,5 +42,5 @@ batches_step_by_step = record {
       ∙ ap (λ (k : ℕ). cond (is_due i) (refresh_step m ∷ []) [] ++ each (λ l. block_step m (i + l) (block_at m.block part l)) k) (sym e);
   block_coins = λ N m cipher i block is block_is.
       ap (λ (k : ℕ). pred N * k) (ap length (plain_bits-block m i block) ∙ is.reads.count block ∙ ap (λ (k : ℕ). 8 * k) block_is.0);
-  refresh_coins = λ N m. ap (λ (l : List Bool). pred N * length l) (plain_bits-key m.key) ∙ omega arith;
+  refresh_coins = λ N m. ap (λ (l : List Bool). pred N * length l) (inputs_stand_in_parts.bits_of_key m.key) ∙ omega arith;
 }

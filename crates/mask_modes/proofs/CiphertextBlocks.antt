@@ -1,8 +1,8 @@
 -- The ciphertext as blocks end to end.
-use Rattle.std.proofs.Common.{◌≡◌, ℕ, zero, suc, ◌+◌, ◌-◌, ◌*◌, ◌/◌, ◌%◌, ◌<◌, ◌≤◌, List, [], ◌∷◌, ◌++◌, length, take, drop, replicate, get_or, inl, inr, refl, ap, ap₂, sym, ◌∙◌, arith, length-append, length-drop}
+use Rattle.std.proofs.Common.{◌≡◌, ℕ, zero, suc, ◌+◌, ◌-◌, ◌*◌, ◌/◌, ◌%◌, ◌<◌, ◌≤◌, List, ◌++◌, length, take, drop, replicate, get_or, inl, inr, refl, ap, ap₂, sym, ◌∙◌, arith}
 use Rattle.std.proofs.Math.Seq.{take-add}
 use Rattle.std.proofs.lemmas.Bool.{cases_lt}
-use Rattle.std.proofs.lemmas.List.{drop-append-le, take-append-le, take_all, take-take, get_or-take, get_or_append_left, get_or-append_right, length-replicate}
+use Rattle.std.proofs.lemmas.List.{drop-append-le, take-append-le, take_all, take-take, get_or-take, get_or_append_left, get_or-append_right}
 use Rattle.std.proofs.lemmas.Nat.{div-add-mod', div_below, mod_below, mul-add-lt, row_fits}
 use Rattle.std.proofs.Math.Nat.{div-mul-le_self}
 use Rattle.mask_circuit.specs.Wires.{joined}
@@ -13,8 +13,7 @@ use Rattle.mask_modes.specs.Steps.{block_at}
 use Rattle.mask_modes.specs.Outputs.{ciphertext_block}
 use Rattle.mask_modes.specs.Laws.{CiphertextInBlocks}
 use Rattle.mask_modes.proofs.BlockCounts.{le-block_count}
-use Rattle.mask_modes.proofs.Keystreams.{length-counter, length-ciphertext}
-use Rattle.mask_modes.proofs.TapeBits.{length-block_at}
+use Rattle.mask_modes.proofs.Blocks.{length-block_at}
 use Rattle.mask_modes.proofs.Xors.{length-xor_bytes, xor_bytes-append, xor_bytes-take}
 
 -- pieces of b elements each, from the front of a list

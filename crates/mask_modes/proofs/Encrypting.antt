@@ -1,13 +1,11 @@
 -- The steps of counter mode encrypt, and keep the key.
-use Rattle.std.proofs.Common.{◌≡◌, ℕ, suc, ◌^◌, ◌<◌, ◌≤◌, Bool, true, false, cond, List, [], ◌∷◌, ◌++◌, length, map, drop, All, refl, ap, ap₂, sym, subst, ◌∙◌, arith}
+use Rattle.std.proofs.Common.{◌≡◌, ℕ, suc, ◌≤◌, Bool, true, false, cond, List, [], ◌∷◌, ◌++◌, length, map, drop, All, refl, ap, ap₂, sym, subst, ◌∙◌, arith}
 use Rattle.std.proofs.lemmas.List.{length-map, map-append, map-id, append-nil, drop_all}
-use Rattle.std.proofs.lemmas.Nat.{mod_below, pow_pos}
 use Rattle.std.proofs.lemmas.Simd.{map-map}
 use Rattle.mask_circuit.specs.Value.{plain}
 use Rattle.mask_circuit.specs.Ring.{bits}
 use Rattle.mask_circuit.specs.Wires.{each}
 use Rattle.mask_shares.specs.Sharing.{unmasked}
-use Rattle.mask_shares.proofs.Lists.{get_or-each}
 use Rattle.mask_gadget.proofs.Made.{map-each}
 use Rattle.mask_eval.proofs.LaneRuns.{each_map}
 use Rattle.mask_trace.specs.Steps.{Public, Plain, Key, Registers, IsThere, stretch}

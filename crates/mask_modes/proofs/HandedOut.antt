@@ -1,15 +1,14 @@
 -- What the steps of counter mode hand out stands for the ciphertext.
-use Rattle.std.proofs.Common.{◌≡◌, ℕ, zero, suc, ◌+◌, ◌*◌, ◌^◌, ◌<◌, ◌≤◌, Bool, true, false, cond, List, [], ◌∷◌, ◌++◌, length, map, take, drop, replicate, get_or, bit_xor, All, refl, ap, ap₂, subst, sym, ◌∙◌, arith, add-zero}
+use Rattle.std.proofs.Common.{◌≡◌, ℕ, suc, ◌+◌, ◌≤◌, Bool, true, false, cond, List, [], ◌∷◌, ◌++◌, length, map, take, drop, get_or, All, refl, ap, ap₂, sym, ◌∙◌, arith, add-zero}
 use Rattle.std.specs.List.{concat}
 use Rattle.std.proofs.lemmas.List.Concat.{concat_is}
-use Rattle.std.proofs.lemmas.List.Elements.{All-nil, All-cons, All-tail, All-append, All-take, All-drop, All-replicate}
-use Rattle.std.proofs.lemmas.Nat.{xor_lt}
+use Rattle.std.proofs.lemmas.List.Elements.{All-tail}
 use Rattle.mask_circuit.specs.Ring.{bits}
-use Rattle.mask_circuit.specs.Wires.{each, joined}
+use Rattle.mask_circuit.specs.Wires.{each}
 use Rattle.mask_shares.specs.Sharing.{unmasked}
 use Rattle.mask_shares.proofs.Lists.{length-each, get_or-each}
 use Rattle.mask_gadget.proofs.Made.{map-each, each-same, flat_map-each}
-use Rattle.mask_trace.specs.Steps.{Registers, Step, stretch}
+use Rattle.mask_trace.specs.Steps.{Registers, stretch}
 use Rattle.mask_trace.specs.Traces.{BitShares, output_shares, after_step}
 use Rattle.mask_modes.specs.CounterMode.{block_count, counter, ciphertext_from, xor_bytes}
 use Rattle.mask_modes.specs.Readings.{AreBytes, IsReading}
@@ -19,32 +18,8 @@ use Rattle.mask_modes.specs.Laws.{OutputsStandForCiphertext, HasKey, key_of}
 use Rattle.mask_modes.proofs.CiphertextBlocks.{ciphertext_whole}
 use Rattle.mask_modes.proofs.Keystreams.{counter_is_block, makes_blocks}
 use Rattle.mask_modes.proofs.Encrypting.{encrypted, refreshed}
-use Rattle.mask_modes.proofs.Pieces.{each-first}
-use Rattle.mask_modes.proofs.TapeBits.{length-block_at}
-use Rattle.mask_modes.proofs.Xors.{length-xor_bytes}
-
--- BLOCKS
-
-block_at_is_block : (m : Mode) (part : List ℕ) (j : ℕ) → AreBytes part → IsBlock m (block_at m.block part j)
-block_at_is_block m part j are =
-    let byte : ℕ → Type 0 = λ b. b < 2 ^ 8 in
-    (length-block_at m.block part j,
-    All-take byte m.block (drop (j * m.block) part ++ replicate m.block 0)
-    (All-append byte (drop (j * m.block) part) (replicate m.block 0) (All-drop byte (j * m.block) part are) (All-replicate byte m.block 0 (omega arith))))
-
-xor_bytes_are_bytes : (xs ys : List ℕ) → AreBytes xs → AreBytes ys → AreBytes (xor_bytes xs ys)
-xor_bytes_are_bytes [] ys are are' = All-nil (λ b. b < 2 ^ 8)
-xor_bytes_are_bytes (x ∷ xs) [] are are' = All-nil (λ b. b < 2 ^ 8)
-xor_bytes_are_bytes (x ∷ xs) (y ∷ ys) are are' =
-    All-cons (λ b. b < 2 ^ 8) (bit_xor x y) (xor_bytes xs ys) (xor_lt 8 x y (are 0 0 (omega arith)) (are' 0 0 (omega arith)))
-    (xor_bytes_are_bytes xs ys (All-tail (λ b. b < 2 ^ 8) x xs are) (All-tail (λ b. b < 2 ^ 8) y ys are'))
-
-xor_is_block : (m : Mode) (x y : List ℕ) → IsBlock m x → IsBlock m y → IsBlock m (xor_bytes x y)
-xor_is_block m x y (size, are) (size', are') = (length-xor_bytes x y (omega arith) ∙ size, xor_bytes_are_bytes x y are are')
-
--- what holds of each element that is made by number
-each_holds : {A : Type 0} (P : A → Type 0) (f : ℕ → A) (n : ℕ) → ((k : ℕ) → P (f k)) → All P (each f n)
-each_holds P f n holds k d lt = subst P (sym (get_or-each f n k d (omega (arith, length-each f n)))) (holds k)
+use Rattle.mask_modes.proofs.Pieces.{each-first, each_holds}
+use Rattle.mask_modes.proofs.Blocks.{block_at_is_block, xor_is_block}
 
 -- blocks are known by their readings
 same_blocks : (m : Mode) → IsReading m.reading → (xs ys : List (List ℕ)) → All (IsBlock m) xs → All (IsBlock m) ys → map m.reading xs ≡ map m.reading ys → xs ≡ ys
@@ -70,7 +45,7 @@ module _ (N : ℕ) (m : Mode) (cipher : List Bool → List ℕ → List ℕ) (tw
   ends_in_ciphertext key i part outputs out are stand same =
       let n = block_count m.block (length part) in
       let block = ciphertext_block m.block m.iv (cipher key) i part in
-      let all : All (IsBlock m) (each block n) = each_holds (IsBlock m) block n (λ j. ciphertext_block_is_block key i part j are) in
+      let all : All (IsBlock m) (each block n) = each_holds (IsBlock m) block n (λ j lt. ciphertext_block_is_block key i part j are) in
       ap (λ (l : List (List ℕ)). take (length part) (concat l)) (same_blocks m is.reads out (each block n) stand.are_blocks all (stand.read ∙ same))
       ∙ ap (take (length part)) (concat_is (each block n) ∙ flat_map-each (λ x. x) block n)
       ∙ sym (ciphertext_whole m.block m.iv (cipher key) is.some (makes_blocks m cipher key is) i part)
@@ -132,7 +107,7 @@ outputs_stand_for_ciphertext = record {
   run = λ N m cipher have i part r out two is has are stand.
       let n = block_count m.block (length part) in
       let xors : (ℕ → List ℕ) → ℕ → List ℕ = λ block j. xor_bytes (block j) (cipher (key_of have) (counter m.block m.iv (i + j))) in
-      let all : All (IsBlock m) (blocks m.block part) = each_holds (IsBlock m) (block_at m.block part) n (λ j. block_at_is_block m part j are) in
+      let all : All (IsBlock m) (blocks m.block part) = each_holds (IsBlock m) (block_at m.block part) n (λ j lt. block_at_is_block m part j are) in
       ends_in_ciphertext N m cipher two is (key_of have) i part (handed_out N have (steps_from m i (blocks m.block part)) r) out are stand
       (handed N m cipher two is (key_of have) have i (blocks m.block part) r has refl all
       ∙ ap (map m.reading)

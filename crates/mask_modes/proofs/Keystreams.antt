@@ -1,8 +1,7 @@
 -- Keystreams in parts, and what is made with them.
-use Rattle.std.proofs.Common.{◌≡◌, ◌^◌, subst, Bool, All, ℕ, ◌+◌, ◌-◌, ◌*◌, ◌<◌, ◌≤◌, List, ◌++◌, length, take, ap, sym, ◌∙◌, arith, length-append, add_assoc}
+use Rattle.std.proofs.Common.{◌≡◌, ◌^◌, Bool, ℕ, ◌+◌, ◌-◌, ◌*◌, ◌<◌, ◌≤◌, List, ◌++◌, length, take, ap, sym, ◌∙◌, arith, length-append, add_assoc}
 use Rattle.std.proofs.lemmas.List.{length-take}
 use Rattle.std.proofs.lemmas.Nat.{mod_below, pow_pos}
-use Rattle.mask_shares.proofs.Lists.{get_or-each}
 use Rattle.mask_circuit.specs.Wires.{joined}
 use Rattle.mask_circuit.proofs.Places.{length-each, length-joined}
 use Rattle.mask_gadget.proofs.Made.{joined-same}
@@ -10,7 +9,7 @@ use Rattle.mask_modes.specs.CounterMode.{MakesBlocks, block_count, counter, keys
 use Rattle.mask_modes.specs.Steps.{Mode, Enciphers, IsBlock}
 use Rattle.mask_modes.specs.Laws.{CiphertextFits}
 use Rattle.mask_modes.proofs.BlockCounts.{block_count-add, block_count-whole, le-block_count, block_count_grows}
-use Rattle.mask_modes.proofs.Pieces.{joined-add}
+use Rattle.mask_modes.proofs.Pieces.{joined-add, each_holds}
 use Rattle.mask_modes.proofs.Xors.{length-xor_bytes, xor_bytes-append, xor_bytes-append_right, xor_bytes-take, xor_bytes_twice}
 
 pub length-counter : (b iv i : ℕ) → length (counter b iv i) ≡ b
@@ -18,11 +17,7 @@ length-counter b iv i = length-each _ b
 
 -- a counter is a block
 pub counter_is_block : (m : Mode) (i : ℕ) → IsBlock m (counter m.block m.iv i)
-counter_is_block m i = (
-  length-counter m.block m.iv i,
-  λ k d lt. let l : k < m.block = omega (arith, length-counter m.block m.iv i) in
-      subst (λ (byte : ℕ). byte < 2 ^ 8) (sym (get_or-each _ m.block k d l)) (mod_below _ (2 ^ 8) (pow_pos 8)),
-)
+counter_is_block m i = (length-counter m.block m.iv i, each_holds (λ byte. byte < 2 ^ 8) _ m.block (λ k lt. mod_below _ (2 ^ 8) (pow_pos 8)))
 
 pub makes_blocks : (m : Mode) (cipher : List Bool → List ℕ → List ℕ) (key : List Bool) → Enciphers cipher m → MakesBlocks m.block m.iv (cipher key)
 makes_blocks m cipher key is i = (is.is_block key (counter m.block m.iv i) (counter_is_block m i)).0

@@ -1,5 +1,6 @@
 pub mod Batches
 pub mod BlockCounts
+pub mod Blocks
 pub mod CiphertextBlocks
 mod CounterExamples
 pub mod Encrypting
@@ -9,6 +10,7 @@ pub mod Pieces
 pub mod Plans
 pub mod Readings
 pub mod Splitting
+mod StepsExamples
 pub mod TapeBits
 pub mod Unmasked
 pub mod Xors

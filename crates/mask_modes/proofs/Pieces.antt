@@ -1,5 +1,6 @@
 -- Lists that are made by number, in two parts.
-use Rattle.std.proofs.Common.{◌≡◌, ℕ, zero, suc, ◌+◌, List, [], ◌∷◌, ◌++◌, refl, ap, sym, ◌∙◌, append_assoc, append-nil, add-zero, add-suc}
+use Rattle.std.proofs.Common.{◌≡◌, ℕ, zero, suc, ◌+◌, List, [], ◌∷◌, ◌++◌, refl, ◌<◌, All, arith, subst, ap, sym, ◌∙◌, append_assoc, append-nil, add-zero, add-suc}
+use Rattle.mask_shares.proofs.Lists.{length-each, get_or-each}
 use Rattle.mask_circuit.specs.Wires.{each, joined}
 
 pub each-add : {A : Type 0} (f : ℕ → A) (m n : ℕ) → each f (m + n) ≡ each f m ++ each (λ k. f (m + k)) n
@@ -20,3 +21,9 @@ joined-add f m (suc n) =
 pub each-first : {A : Type 0} (f : ℕ → A) (n : ℕ) → each f (suc n) ≡ f 0 ∷ each (λ i. f (suc i)) n
 each-first f zero = refl
 each-first f (suc n) = ap (λ l. l ++ f (suc n) ∷ []) (each-first f n)
+
+-- what holds of each element by its number
+pub each_holds : {A : Type 0} (P : A → Type 0) (f : ℕ → A) (n : ℕ) → ((k : ℕ) → k < n → P (f k)) → All P (each f n)
+each_holds P f n holds k d lt =
+    let within : k < n = omega (arith, length-each f n) in
+    subst P (sym (get_or-each f n k d within)) (holds k within)

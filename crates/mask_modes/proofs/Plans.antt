@@ -2,7 +2,7 @@
 use Rattle.std.proofs.Common.{◌≡◌, ℕ, suc, ◌-◌, ◌*◌, ◌<◌, ◌≤◌, Bool, true, false, cond, List, [], ◌∷◌, ◌++◌, length, map, get_or, All, ◌⊎◌, inl, inr, refl, ap, ap₂, sym, subst, ◌∙◌, arith, length-append}
 use Rattle.std.proofs.lemmas.Bool.{cases_lt}
 use Rattle.std.proofs.lemmas.List.{length-map, map-append, append-nil, get_or_append_left, get_or-append_right}
-use Rattle.std.proofs.lemmas.List.Elements.{All-nil, All-tail, All-append, All-map, All-from_get_or}
+use Rattle.std.proofs.lemmas.List.Elements.{All-nil, All-tail, All-append, All-map}
 use Rattle.mask_circuit.specs.Wires.{each}
 use Rattle.mask_shares.proofs.Lists.{length-each, get_or-each}
 use Rattle.mask_trace.specs.Steps.{InputBit, Public, Plain, Key, Step, IsThere, IsNotHeld, IsStrongStep, IsStrongPlan}
@@ -11,15 +11,14 @@ use Rattle.mask_modes.specs.CounterMode.{block_count, counter}
 use Rattle.mask_modes.specs.Steps.{Mode, Enciphers, blocks, block_step, refresh_step, steps_from, is_due}
 use Rattle.mask_modes.specs.Laws.{StepsAreStrong}
 use Rattle.mask_modes.proofs.Keystreams.{length-counter}
-use Rattle.mask_modes.proofs.TapeBits.{blocks_are_long}
+use Rattle.mask_modes.proofs.Blocks.{blocks_are_long}
+use Rattle.mask_modes.proofs.Pieces.{each_holds}
 
 -- THE KEY
 
 -- the whole key is there ..
 key_there : (k s : ℕ) → All (IsThere k s) (each Key k)
-key_there k s =
-    All-from_get_or (IsThere k s) (each Key k) (Public false)
-    (λ i lt. let l : i < k = omega (arith, length-each Key k) in subst (IsThere k s) (sym (get_or-each Key k i (Public false) l)) l)
+key_there k s = each_holds (IsThere k s) Key k (λ i lt. lt)
 
 -- .. each bit at its place
 key_at : (k i : ℕ) (more : List InputBit) → i < k → get_or (each Key k ++ more) i (Public false) ≡ Key i

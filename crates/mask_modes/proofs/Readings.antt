@@ -1,12 +1,12 @@
 -- The low-first and the high-first reading are readings.
-use Rattle.std.proofs.Common.{◌≡◌, ℕ, ◌+◌, ◌-◌, ◌*◌, ◌%◌, ◌^◌, ◌<◌, Bool, List, [], ◌∷◌, ◌++◌, length, take, drop, get_or, reverse, All, refl, ap, ap₂, sym, subst, ◌∙◌, arith, length-append}
+use Rattle.std.proofs.Common.{◌≡◌, ℕ, ◌-◌, ◌*◌, ◌^◌, ◌<◌, List, [], ◌∷◌, length, take, drop, reverse, refl, ap, ap₂, sym, subst, ◌∙◌, arith}
 use Rattle.std.proofs.Math.Nat.{mod-eq_of_lt}
 use Rattle.std.proofs.lemmas.List.{take_at, drop_at, length-reverse, reverse-reverse, get_or-reverse}
 use Rattle.std.proofs.lemmas.List.Elements.{All-tail}
-use Rattle.mask_bits.specs.Reading.{lowest, low, high, number}
+use Rattle.mask_bits.specs.Reading.{lowest, low, number}
 use Rattle.mask_bits.proofs.Bytes.{length-low}
 use Rattle.mask_bits.proofs.Numbers.{length-lowest, number-lowest}
-use Rattle.mask_modes.specs.Readings.{AreBytes, IsReading}
+use Rattle.mask_modes.specs.Readings.{AreBytes}
 use Rattle.mask_modes.specs.Laws.{BytesAreRead}
 
 -- a byte is known by its bits
@@ -32,12 +32,13 @@ AreBytes-reverse xs small k d lt =
     subst (λ (byte : ℕ). byte < 2 ^ 8) (sym (get_or-reverse xs k d within)) (small (length xs - 1 - k) d (omega arith))
 
 pub bytes_are_read : BytesAreRead
-bytes_are_read =
-    (record { count = length-low; one_to_one = low_one_to_one },
-    record {
-      count = λ xs. length-low (reverse xs) ∙ ap (λ (n : ℕ). 8 * n) (length-reverse xs);
-      one_to_one = λ xs ys small small' same.
-          sym (reverse-reverse xs)
-          ∙ ap reverse (low_one_to_one (reverse xs) (reverse ys) (AreBytes-reverse xs small) (AreBytes-reverse ys small') same)
-          ∙ reverse-reverse ys;
-    })
+bytes_are_read = (
+  record { count = length-low; one_to_one = low_one_to_one },
+  record {
+    count = λ xs. length-low (reverse xs) ∙ ap (λ (n : ℕ). 8 * n) (length-reverse xs);
+    one_to_one = λ xs ys small small' same.
+        sym (reverse-reverse xs)
+        ∙ ap reverse (low_one_to_one (reverse xs) (reverse ys) (AreBytes-reverse xs small) (AreBytes-reverse ys small') same)
+        ∙ reverse-reverse ys;
+  },
+)
