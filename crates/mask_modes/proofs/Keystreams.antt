@@ -6,6 +6,7 @@ use Rattle.mask_circuit.specs.Wires.{joined}
 use Rattle.mask_circuit.proofs.Places.{length-each, length-joined}
 use Rattle.mask_gadget.proofs.Made.{joined-same}
 use Rattle.mask_modes.specs.CounterMode.{MakesBlocks, block_count, counter, keystream, ciphertext_from, xor_bytes}
+use Rattle.mask_modes.specs.Readings.{AreBytes}
 use Rattle.mask_modes.specs.Steps.{Mode, Enciphers, IsBlock}
 use Rattle.mask_modes.specs.Laws.{CiphertextFits}
 use Rattle.mask_modes.proofs.BlockCounts.{block_count-add, block_count-whole, le-block_count, block_count_grows}
@@ -15,9 +16,12 @@ use Rattle.mask_modes.proofs.Xors.{length-xor_bytes, xor_bytes-append, xor_bytes
 pub length-counter : (b iv i : ℕ) → length (counter b iv i) ≡ b
 length-counter b iv i = length-each _ b
 
+pub counter_bytes : (b iv i : ℕ) → AreBytes (counter b iv i)
+counter_bytes b iv i = each_holds (λ byte. byte < 2 ^ 8) _ b (λ k lt. mod_below _ (2 ^ 8) (pow_pos 8))
+
 -- a counter is a block
 pub counter_is_block : (m : Mode) (i : ℕ) → IsBlock m (counter m.block m.iv i)
-counter_is_block m i = (length-counter m.block m.iv i, each_holds (λ byte. byte < 2 ^ 8) _ m.block (λ k lt. mod_below _ (2 ^ 8) (pow_pos 8)))
+counter_is_block m i = (length-counter m.block m.iv i, counter_bytes m.block m.iv i)
 
 pub makes_blocks : (m : Mode) (cipher : List Bool → List ℕ → List ℕ) (key : List Bool) → Enciphers cipher m → MakesBlocks m.block m.iv (cipher key)
 makes_blocks m cipher key is i = (is.is_block key (counter m.block m.iv i) (counter_is_block m i)).0

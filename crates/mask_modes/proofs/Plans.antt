@@ -8,8 +8,9 @@ use Rattle.mask_shares.proofs.Lists.{length-each, get_or-each}
 use Rattle.mask_trace.specs.Steps.{InputBit, Public, Plain, Key, Step, IsThere, IsNotHeld, IsStrongStep, IsStrongPlan}
 use Rattle.mask_trace.specs.Privacy.{AreAlike, without_message}
 use Rattle.mask_modes.specs.CounterMode.{block_count, counter}
-use Rattle.mask_modes.specs.Steps.{Mode, Enciphers, blocks, block_step, refresh_step, steps_from, is_due}
-use Rattle.mask_modes.specs.Laws.{StepsAreStrong}
+use Rattle.mask_modes.specs.Steps.{Mode, Enciphers, blocks, block_step, refresh_step, steps_from, steps_of, is_due}
+use Rattle.mask_modes.specs.Laws.{StepsAreStrong, RunsArePrivate}
+use Rattle.mask_trace.proofs.Showing.{plans_are_private}
 use Rattle.mask_modes.proofs.Keystreams.{length-counter}
 use Rattle.mask_modes.proofs.Blocks.{blocks_are_long}
 use Rattle.mask_modes.proofs.Pieces.{each_holds}
@@ -137,3 +138,8 @@ steps_are_strong = record {
       steps_are_alike m cipher is 0 (blocks m.block message) (blocks m.block other) (blocks_are_long m.block message) (blocks_are_long m.block other)
       (length-each _ _ ∙ ap (block_count m.block) e ∙ sym (length-each _ _));
 }
+
+pub runs_are_private : RunsArePrivate
+runs_are_private N m cipher message other two is same P few key key' size size' v =
+    plans_are_private N m.key (steps_of m message) two (steps_are_strong.strong m cipher 0 (blocks m.block message) is (blocks_are_long m.block message)) P few
+    (steps_of m other) (steps_are_strong.alike m cipher message other is same) key key' size size' v

@@ -1,12 +1,12 @@
 -- Whole blocks, and what follows them.
-use Rattle.std.proofs.Common.{◌≡◌, ℕ, suc, ◌+◌, ◌*◌, ◌<◌, ◌≤◌, cond, List, [], ◌∷◌, ◌++◌, length, take, drop, replicate, ap, ap₂, sym, ◌∙◌, arith, length-append, append_assoc, length-drop}
+use Rattle.std.proofs.Common.{◌≡◌, ℕ, suc, ◌+◌, ◌*◌, ◌<◌, ◌≤◌, List, [], ◌∷◌, ◌++◌, length, take, drop, replicate, ap, ap₂, sym, ◌∙◌, arith, length-append, append_assoc, length-drop}
 use Rattle.std.proofs.lemmas.List.{drop-append-le, take-append-le, drop_at, drop-drop}
 use Rattle.std.proofs.lemmas.Nat.{row_fits}
 use Rattle.mask_circuit.specs.Wires.{each}
 use Rattle.mask_circuit.proofs.Places.{length-each}
 use Rattle.mask_gadget.proofs.Made.{each-same}
 use Rattle.mask_modes.specs.CounterMode.{block_count}
-use Rattle.mask_modes.specs.Steps.{Mode, block_at, blocks, block_step, refresh_step, steps_from, is_due}
+use Rattle.mask_modes.specs.Steps.{Mode, block_at, blocks, block_step, steps_from, ahead_of}
 use Rattle.mask_modes.specs.Laws.{MessagesSplit}
 use Rattle.mask_modes.proofs.BlockCounts.{block_count-add, block_count-whole}
 use Rattle.mask_modes.proofs.Keystreams.{ciphertext-append}
@@ -44,9 +44,9 @@ unfolding steps_from
 steps-append m i [] rest = let e : i ≡ i + 0 = omega arith in ap (λ (k : ℕ). steps_from m k rest) e
 steps-append m i (block ∷ front) rest =
     let e : suc i + length front ≡ i + suc (length front) = omega arith in
-    ap (λ l. cond (is_due i) (refresh_step m ∷ []) [] ++ block_step m i block ∷ l)
+    ap (λ l. ahead_of m i ++ block_step m i block ∷ l)
     (steps-append m (suc i) front rest ∙ ap (λ (k : ℕ). steps_from m (suc i) front ++ steps_from m k rest) e)
-    ∙ sym (append_assoc (cond (is_due i) (refresh_step m ∷ []) []) (block_step m i block ∷ steps_from m (suc i) front) (steps_from m (i + suc (length front)) rest))
+    ∙ sym (append_assoc (ahead_of m i) (block_step m i block ∷ steps_from m (suc i) front) (steps_from m (i + suc (length front)) rest))
 
 pub messages_split : MessagesSplit
 messages_split = record {

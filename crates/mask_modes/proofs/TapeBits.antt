@@ -9,7 +9,7 @@ use Rattle.mask_trace.specs.Steps.{Public, Plain, Key, plain_bits, stretch, bits
 use Rattle.mask_trace.proofs.Inputs.{inputs_stand_in_parts}
 use Rattle.mask_trace.proofs.Traces.{traces_split, bits_of-cons}
 use Rattle.mask_modes.specs.CounterMode.{block_count, counter}
-use Rattle.mask_modes.specs.Steps.{Mode, Enciphers, block_at, blocks, block_step, refresh_step, steps_from, steps_of, is_due}
+use Rattle.mask_modes.specs.Steps.{Mode, Enciphers, block_at, blocks, block_step, refresh_step, steps_from, steps_of, ahead_of, is_due}
 use Rattle.mask_modes.specs.Laws.{RunBits}
 use Rattle.mask_modes.proofs.Blocks.{blocks_are_long}
 
@@ -59,7 +59,7 @@ module _ (N : ℕ) (m : Mode) (cipher : List Bool → List ℕ → List ℕ) (is
   unfolding steps_from
   bits_from i [] all = let e : i + 0 ≡ i = omega arith in rw e (omega arith)
   bits_from i (block ∷ part) all =
-      let ahead = cond (is_due i) (refresh_step m ∷ []) [] in
+      let ahead = ahead_of m i in
       let rest = steps_from m (suc i) part in
       let stretches : bits_of N (ahead ++ block_step m i block ∷ rest) ≡ bits_of N ahead + ((pred N * (8 * m.block) + draws m.circuit N) + bits_of N rest)
       = traces_split.bits N ahead (block_step m i block ∷ rest)

@@ -1,16 +1,17 @@
 -- What is proved of counter mode.
-use Rattle.std.specs.Prelude.{◌≡◌, ℕ, pred, ◌+◌, ◌-◌, ◌*◌, ◌/◌, ◌%◌, ◌<◌, ◌≤◌, Bool, cond, List, [], ◌∷◌, ◌++◌, map, length, take, slice_index, All}
+use Rattle.std.specs.Prelude.{◌≡◌, ℕ, pred, ◌+◌, ◌-◌, ◌*◌, ◌/◌, ◌%◌, ◌^◌, ◌<◌, ◌≤◌, Bool, List, ◌++◌, map, length, take, slice_index, All}
 use Rattle.std.specs.List.{concat}
-use Rattle.mask_bits.specs.Reading.{low, high}
+use Rattle.mask_bits.specs.Reading.{lowest, low, high, big_endian}
 use Rattle.mask_circuit.specs.Ring.{bits}
 use Rattle.mask_circuit.specs.Wires.{each, joined}
 use Rattle.mask_circuit.specs.Expansion.{draws}
 use Rattle.mask_shares.specs.Sharing.{unmasked}
 use Rattle.mask_trace.specs.Steps.{Registers, IsStrongPlan, bits_of, sharing_bits}
 use Rattle.mask_trace.specs.Traces.{BitShares, after, output_shares}
-use Rattle.mask_trace.specs.Privacy.{AreAlike}
+use Rattle.mask_trace.specs.Privacy.{AreAlike, trace_hits}
+use Rattle.mask_trace.specs.Drawing.{Stand, Ran, RanPart}
 use Rattle.mask_modes.specs.CounterMode.{MakesBlocks, block_count, counter, ciphertext_from, xor_bytes}
-use Rattle.mask_modes.specs.Steps.{Mode, Enciphers, IsBlock, block_at, blocks, block_step, refresh_step, steps_from, steps_of, is_due}
+use Rattle.mask_modes.specs.Steps.{Mode, Enciphers, IsBlock, block_at, blocks, block_step, refresh_step, steps_from, steps_of, ahead_of, block_steps, IsBatch}
 use Rattle.mask_modes.specs.Readings.{AreBytes, IsReading}
 use Rattle.mask_modes.specs.Outputs.{ciphertext_block, handed_out, StandFor}
 
@@ -39,15 +40,20 @@ pub record CiphertextInBlocks : Type 0 where
   pub byte : (b iv : ℕ) (cipher : List ℕ → List ℕ) (i : ℕ) (part : List ℕ) (k : ℕ) → 0 < b → MakesBlocks b iv cipher → k < length part →
       slice_index (ciphertext_from b iv cipher i part) k ≡ slice_index (ciphertext_block b iv cipher i part (k / b)) (k % b)
 
--- The steps of up to 64 blocks that follow 64 blocks, 128 and so on: the refresh, if one is due, and then a step for each
--- block. How many coins share the message bits of either.
-pub record BatchesStepByStep : Type 0 where
-  pub steps : (m : Mode) (i : ℕ) (part : List ℕ) → i % 64 ≡ 0 → 1 ≤ block_count m.block (length part) → block_count m.block (length part) ≤ 64 →
-      steps_from m i (blocks m.block part)
-      ≡ cond (is_due i) (refresh_step m ∷ []) [] ++ each (λ l. block_step m (i + l) (block_at m.block part l)) (block_count m.block (length part))
+-- The steps of a batch are the refresh, if one is due, and then those of its blocks, which have as many coins to share their
+-- message bits. What was evaluated in these two parts was evaluated, and either may have stopped.
+pub record BatchesAreSteps : Type 0 where
+  pub steps : (m : Mode) (i : ℕ) (part : List ℕ) → IsBatch m i part → steps_from m i (blocks m.block part) ≡ ahead_of m i ++ block_steps m i part
+  pub refresh_coins : (N : ℕ) (m : Mode) → sharing_bits N (refresh_step m) ≡ 0
   pub block_coins : (N : ℕ) (m : Mode) (cipher : List Bool → List ℕ → List ℕ) (i : ℕ) (block : List ℕ) → Enciphers cipher m → IsBlock m block →
       sharing_bits N (block_step m i block) ≡ pred N * (8 * m.block)
-  pub refresh_coins : (N : ℕ) (m : Mode) → sharing_bits N (refresh_step m) ≡ 0
+  pub ran : (N : ℕ) (m : Mode) (have now after : Registers BitShares) (i : ℕ) (part : List ℕ) (a b c : Stand) → IsBatch m i part →
+      Ran N have (ahead_of m i) now a b → Ran N now (block_steps m i part) after b c → Ran N have (steps_from m i (blocks m.block part)) after a c
+  pub stopped_ahead : (N : ℕ) (m : Mode) (have : Registers BitShares) (i : ℕ) (part : List ℕ) (count : ℕ) (a b : Stand) → IsBatch m i part →
+      RanPart N have (ahead_of m i) count a b → RanPart N have (steps_from m i (blocks m.block part)) count a b
+  pub stopped : (N : ℕ) (m : Mode) (have now : Registers BitShares) (i : ℕ) (part : List ℕ) (count : ℕ) (a b c : Stand) → IsBatch m i part →
+      Ran N have (ahead_of m i) now a b → RanPart N now (block_steps m i part) count b c →
+      RanPart N have (steps_from m i (blocks m.block part)) (length (ahead_of m i) + count) a c
 
 -- The bits that a run takes from the tape: for each block those that share it and those that the circuit draws, and for
 -- each 64 blocks but the first those of the refresh.
@@ -62,6 +68,13 @@ pub record StepsAreStrong : Type 0 where
       All (λ block. length block ≡ m.block) part → IsStrongPlan m.key 0 (steps_from m i part)
   pub alike : (m : Mode) (cipher : List Bool → List ℕ → List ℕ) (message other : List ℕ) → Enciphers cipher m →
       length message ≡ length other → AreAlike (steps_of m message) (steps_of m other)
+
+-- Any few wires of a run in counter mode show nothing of the key and the message: for any two keys and any two messages of
+-- one length they show the same equally often, over all sharings of the key and all tapes.
+abbrev pub RunsArePrivate : Type 0
+RunsArePrivate = (N : ℕ) (m : Mode) (cipher : List Bool → List ℕ → List ℕ) (message other : List ℕ) → 2 ≤ N → Enciphers cipher m → length message ≡ length other →
+    (P : List ℕ) → length P < N → (key key' : List Bool) → length key ≡ m.key → length key' ≡ m.key → (v : List Bool) →
+    trace_hits N key (steps_of m message) P v ≡ trace_hits N key' (steps_of m other) P v
 
 -- the bits of the key that these shares stand for
 abbrev pub key_of : Registers BitShares → List Bool
@@ -81,9 +94,13 @@ pub record StepsEncrypt : Type 0 where
       2 ≤ N → Enciphers cipher m → HasKey N m have →
       HasKey N m (after N have (steps_from m i part) r) × (key_of (after N have (steps_from m i part) r) ≡ key_of have)
 
--- Both readings of bytes are readings.
-abbrev pub BytesAreRead : Type 0
-BytesAreRead = IsReading low × IsReading high
+-- Both readings of bytes are readings. A counter is a big-endian number, and read high first its bits are those of the
+-- number.
+pub record BytesAreRead : Type 0 where
+  pub low_first : IsReading low
+  pub high_first : IsReading high
+  pub number : (b iv i : ℕ) → big_endian (counter b iv i) ≡ (iv + i) % 2 ^ (8 * b)
+  pub bits : (b iv i : ℕ) → high (counter b iv i) ≡ lowest (8 * b) (iv + i)
 
 -- What a run hands out stands for the ciphertext, whatever the tape: the blocks that the outputs of the steps of a part
 -- stand for, end to end, begin with the ciphertext of the part. So do those of its blocks one by one, each on a tape of its own.

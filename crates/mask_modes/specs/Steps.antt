@@ -1,5 +1,5 @@
 -- The steps of a run in counter mode.
-use Rattle.std.specs.Prelude.{◌≡◌, ℕ, suc, ◌+◌, ◌*◌, ◌%◌, ◌<◌, Bool, not, ◌&&◌, ◌==◌, cond, List, [], ◌∷◌, ◌++◌, map, length, take, drop, replicate}
+use Rattle.std.specs.Prelude.{◌≡◌, ℕ, suc, ◌+◌, ◌*◌, ◌%◌, ◌<◌, ◌≤◌, Bool, not, ◌&&◌, ◌==◌, cond, List, [], ◌∷◌, ◌++◌, map, length, take, drop, replicate}
 use Rattle.mask_circuit.specs.Netlist.{Netlist, IsWellFormed}
 use Rattle.mask_circuit.specs.Value.{plain}
 use Rattle.mask_circuit.specs.Wires.{each}
@@ -42,10 +42,24 @@ refresh_step m = record { circuit = m.refresh; inputs = each Key m.key; keeps = 
 abbrev pub is_due : ℕ → Bool
 is_due i = i % 64 == 0 && not (i == 0)
 
+-- what goes ahead of block i
+abbrev pub ahead_of : Mode → ℕ → List Step
+ahead_of m i = cond (is_due i) (refresh_step m ∷ []) []
+
 -- the steps of these blocks, the first of which is block i of the run
 unfoldable pub steps_from : Mode → ℕ → List (List ℕ) → List Step
 steps_from m i [] = []
-steps_from m i (block ∷ more) = cond (is_due i) (refresh_step m ∷ []) [] ++ block_step m i block ∷ steps_from m (suc i) more
+steps_from m i (block ∷ more) = ahead_of m i ++ block_step m i block ∷ steps_from m (suc i) more
+
+-- the steps of the blocks of a part that begins with block i, with nothing ahead of them
+abbrev pub block_steps : Mode → ℕ → List ℕ → List Step
+block_steps m i part = each (λ l. block_step m (i + l) (block_at m.block part l)) (block_count m.block (length part))
+
+-- A part that begins with block i is a batch: up to 64 blocks behind 64 blocks, 128 and so on.
+pub record IsBatch (m : Mode) (i : ℕ) (part : List ℕ) : Type 0 where
+  pub behind : i % 64 ≡ 0
+  pub some : 1 ≤ block_count m.block (length part)
+  pub few : block_count m.block (length part) ≤ 64
 
 -- the steps of a message
 abbrev pub steps_of : Mode → List ℕ → List Step

@@ -1,6 +1,6 @@
 //! What is proved of counter mode.
-ghost use Rattle.mask_modes.specs.Laws.{BatchesStepByStep, BytesAreRead, CiphertextFits, CiphertextInBlocks, MessagesSplit};
-ghost use Rattle.mask_modes.specs.Laws.{OutputsStandForCiphertext, RunBits, StepsAreStrong, StepsEncrypt};
+ghost use Rattle.mask_modes.specs.Laws.{BatchesAreSteps, BytesAreRead, CiphertextFits, CiphertextInBlocks, MessagesSplit};
+ghost use Rattle.mask_modes.specs.Laws.{OutputsStandForCiphertext, RunBits, RunsArePrivate, StepsAreStrong, StepsEncrypt};
 
 /// A message splits behind any whole blocks.
 pub fn messages_split()
@@ -17,9 +17,9 @@ pub fn ciphertext_in_blocks()
     ensures { CiphertextInBlocks }
 {}
 
-/// The steps of up to 64 blocks at once: a refresh first, if one is due, and then a step for each block.
-pub fn batches_step_by_step()
-    ensures { BatchesStepByStep }
+/// The steps of a batch: a refresh first, if one is due, and then a step for each block.
+pub fn batches_are_steps()
+    ensures { BatchesAreSteps }
 {}
 
 /// How many bits a run takes from the tape.
@@ -32,12 +32,17 @@ pub fn steps_are_strong()
     ensures { StepsAreStrong }
 {}
 
+/// Few wires of a run show nothing of the key and the message.
+pub fn runs_are_private()
+    ensures { RunsArePrivate }
+{}
+
 /// Each block comes out as its XOR with the encrypted counter, and the key stays what it is.
 pub fn steps_encrypt()
     ensures { StepsEncrypt }
 {}
 
-/// Bytes are known by their bits, read low first or high first.
+/// Bytes are known by their bits, read low first or high first, and counters are big-endian numbers.
 pub fn bytes_are_read()
     ensures { BytesAreRead }
 {}
