@@ -11,8 +11,9 @@ use Rattle.mask_eval.proofs.LaneRuns.{each_map}
 use Rattle.mask_trace.specs.Steps.{Public, Plain, Key, Registers, IsThere, stretch}
 use Rattle.mask_trace.specs.Traces.{BitShares, output_shares, after_step, after}
 use Rattle.mask_modes.specs.CounterMode.{counter, xor_bytes}
-use Rattle.mask_modes.specs.Steps.{Mode, Enciphers, IsBlock, block_step, refresh_step, steps_from, is_due}
-use Rattle.mask_modes.specs.Laws.{StepsEncrypt, HasKey, key_of}
+use Rattle.mask_modes.specs.Steps.{Cipher, Mode, Enciphers, IsBlock, block_step, refresh_step, steps_from, is_due}
+use Rattle.mask_modes.specs.Laws.{StepsEncrypt}
+use Rattle.mask_modes.specs.Outputs.{key_of, HasKey}
 use Rattle.mask_modes.proofs.Keystreams.{counter_is_block}
 use Rattle.mask_modes.proofs.Plans.{block_step_is_strong, refresh_step_is_strong}
 use Rattle.mask_modes.proofs.Unmasked.{stands_for, outputs_stand, length-output_shares, outputs_have_shares}
@@ -27,7 +28,7 @@ module _ (have : Registers BitShares) where
   plains_stand : (bs : List Bool) → map (stands_for have) (map Plain bs) ≡ bs
   plains_stand bs = map-map (stands_for have) Plain bs ∙ map-id bs
 
-module _ (N : ℕ) (m : Mode) (cipher : List Bool → List ℕ → List ℕ) (two : 2 ≤ N) (is : Enciphers cipher m) where
+module _ (N : ℕ) (m : Mode) (cipher : Cipher) (two : 2 ≤ N) (is : Enciphers cipher m) where
   pub encrypted : (have : Registers BitShares) (i : ℕ) (block : List ℕ) (r : List Bool) → HasKey N m have → IsBlock m block →
       map (unmasked bits) (output_shares N have (block_step m i block) r) ≡ m.reading (xor_bytes block (cipher (key_of have) (counter m.block m.iv i)))
   encrypted have i block r (size, shares) block_is =

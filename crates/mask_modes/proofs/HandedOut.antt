@@ -1,6 +1,7 @@
 -- What the steps of counter mode hand out stands for the ciphertext.
 use Rattle.std.proofs.Common.{◌≡◌, ℕ, suc, ◌+◌, ◌≤◌, Bool, true, false, cond, List, [], ◌∷◌, ◌++◌, length, map, take, drop, get_or, All, refl, ap, ap₂, sym, ◌∙◌, arith, add-zero}
 use Rattle.std.specs.List.{concat}
+use Rattle.std.proofs.lemmas.List.{length-map}
 use Rattle.std.proofs.lemmas.List.Concat.{concat_is}
 use Rattle.std.proofs.lemmas.List.Elements.{All-tail}
 use Rattle.mask_circuit.specs.Ring.{bits}
@@ -12,9 +13,9 @@ use Rattle.mask_trace.specs.Steps.{Registers, stretch}
 use Rattle.mask_trace.specs.Traces.{BitShares, output_shares, after_step}
 use Rattle.mask_modes.specs.CounterMode.{block_count, counter, ciphertext_from, xor_bytes}
 use Rattle.mask_modes.specs.Readings.{AreBytes, IsReading}
-use Rattle.mask_modes.specs.Steps.{Mode, Enciphers, IsBlock, block_at, blocks, block_step, refresh_step, steps_from, is_due}
-use Rattle.mask_modes.specs.Outputs.{ciphertext_block, handed_out, StandFor}
-use Rattle.mask_modes.specs.Laws.{OutputsStandForCiphertext, HasKey, key_of}
+use Rattle.mask_modes.specs.Steps.{Cipher, Mode, Enciphers, IsBlock, block_at, blocks, block_step, refresh_step, steps_from, is_due}
+use Rattle.mask_modes.specs.Outputs.{key_of, HasKey, ciphertext_block, handed_out, StandFor}
+use Rattle.mask_modes.specs.Laws.{OutputsStandForCiphertext}
 use Rattle.mask_modes.proofs.CiphertextBlocks.{ciphertext_whole}
 use Rattle.mask_modes.proofs.Keystreams.{counter_is_block, makes_blocks}
 use Rattle.mask_modes.proofs.Encrypting.{encrypted, refreshed}
@@ -32,23 +33,24 @@ same_blocks m is (x ∷ xs) (y ∷ ys) all all' same =
     ap₂ (λ (z : List ℕ) (zs : List (List ℕ)). z ∷ zs) (is.one_to_one x y (all 0 [] (omega arith)).1 (all' 0 [] (omega arith)).1 front)
     (same_blocks m is xs ys (All-tail (IsBlock m) x xs all) (All-tail (IsBlock m) y ys all') back)
 
-module _ (N : ℕ) (m : Mode) (cipher : List Bool → List ℕ → List ℕ) (two : 2 ≤ N) (is : Enciphers cipher m) where
-  ciphertext_block_is_block : (key : List Bool) (i : ℕ) (part : List ℕ) (j : ℕ) → AreBytes part → IsBlock m (ciphertext_block m.block m.iv (cipher key) i part j)
-  ciphertext_block_is_block key i part j are =
+module _ (N : ℕ) (m : Mode) (cipher : Cipher) (two : 2 ≤ N) (is : Enciphers cipher m) where
+  ciphertext_block_is_block : (key : List Bool) (i : ℕ) (part : List ℕ) (j : ℕ) → length key ≡ m.key → AreBytes part →
+      IsBlock m (ciphertext_block m.block m.iv (cipher key) i part j)
+  ciphertext_block_is_block key i part j size are =
       xor_is_block m (block_at m.block part j) (cipher key (counter m.block m.iv (i + j))) (block_at_is_block m part j are)
-      (is.is_block key (counter m.block m.iv (i + j)) (counter_is_block m (i + j)))
+      (is.is_block key (counter m.block m.iv (i + j)) size (counter_is_block m (i + j)))
 
   -- blocks that read as the ciphertext are the ciphertext
-  ends_in_ciphertext : (key : List Bool) (i : ℕ) (part : List ℕ) (outputs : List (List BitShares)) (out : List (List ℕ)) → AreBytes part → StandFor m outputs out →
+  ends_in_ciphertext : (key : List Bool) (i : ℕ) (part : List ℕ) (outputs : List (List BitShares)) (out : List (List ℕ)) → length key ≡ m.key → AreBytes part → StandFor m outputs out →
       map (map (unmasked bits)) outputs ≡ map m.reading (each (ciphertext_block m.block m.iv (cipher key) i part) (block_count m.block (length part))) →
       take (length part) (concat out) ≡ ciphertext_from m.block m.iv (cipher key) i part
-  ends_in_ciphertext key i part outputs out are stand same =
+  ends_in_ciphertext key i part outputs out size are stand same =
       let n = block_count m.block (length part) in
       let block = ciphertext_block m.block m.iv (cipher key) i part in
-      let all : All (IsBlock m) (each block n) = each_holds (IsBlock m) block n (λ j lt. ciphertext_block_is_block key i part j are) in
+      let all : All (IsBlock m) (each block n) = each_holds (IsBlock m) block n (λ j lt. ciphertext_block_is_block key i part j size are) in
       ap (λ (l : List (List ℕ)). take (length part) (concat l)) (same_blocks m is.reads out (each block n) stand.are_blocks all (stand.read ∙ same))
       ∙ ap (take (length part)) (concat_is (each block n) ∙ flat_map-each (λ x. x) block n)
-      ∙ sym (ciphertext_whole m.block m.iv (cipher key) is.some (makes_blocks m cipher key is) i part)
+      ∙ sym (ciphertext_whole m.block m.iv (cipher key) is.some (makes_blocks m cipher key is size) i part)
 
   -- what blocks share one by one
   blocks_encrypted : (have : Registers BitShares) (i : ℕ) (part : List ℕ) (r : ℕ → List Bool) → HasKey N m have → AreBytes part →
@@ -108,11 +110,11 @@ outputs_stand_for_ciphertext = record {
       let n = block_count m.block (length part) in
       let xors : (ℕ → List ℕ) → ℕ → List ℕ = λ block j. xor_bytes (block j) (cipher (key_of have) (counter m.block m.iv (i + j))) in
       let all : All (IsBlock m) (blocks m.block part) = each_holds (IsBlock m) (block_at m.block part) n (λ j lt. block_at_is_block m part j are) in
-      ends_in_ciphertext N m cipher two is (key_of have) i part (handed_out N have (steps_from m i (blocks m.block part)) r) out are stand
+      ends_in_ciphertext N m cipher two is (key_of have) i part (handed_out N have (steps_from m i (blocks m.block part)) r) out (length-map have.key _ ∙ has.0) are stand
       (handed N m cipher two is (key_of have) have i (blocks m.block part) r has refl all
       ∙ ap (map m.reading)
       (ap (each (xors (λ j. get_or (blocks m.block part) j []))) (length-each (block_at m.block part) n)
       ∙ each-same _ _ n (λ j lt. ap (λ (block : List ℕ). xor_bytes block (cipher (key_of have) (counter m.block m.iv (i + j)))) (get_or-each (block_at m.block part) n j [] lt))));
   lanes = λ N m cipher have i part r out two is has are stand.
-      ends_in_ciphertext N m cipher two is (key_of have) i part _ out are stand (blocks_encrypted N m cipher two is have i part r has are);
+      ends_in_ciphertext N m cipher two is (key_of have) i part _ out (length-map have.key _ ∙ has.0) are stand (blocks_encrypted N m cipher two is have i part r has are);
 }

@@ -7,7 +7,7 @@ use Rattle.mask_circuit.proofs.Places.{length-each, length-joined}
 use Rattle.mask_gadget.proofs.Made.{joined-same}
 use Rattle.mask_modes.specs.CounterMode.{MakesBlocks, block_count, counter, keystream, ciphertext_from, xor_bytes}
 use Rattle.mask_modes.specs.Readings.{AreBytes}
-use Rattle.mask_modes.specs.Steps.{Mode, Enciphers, IsBlock}
+use Rattle.mask_modes.specs.Steps.{Cipher, Mode, Enciphers, IsBlock}
 use Rattle.mask_modes.specs.Laws.{CiphertextFits}
 use Rattle.mask_modes.proofs.BlockCounts.{block_count-add, block_count-whole, le-block_count, block_count_grows}
 use Rattle.mask_modes.proofs.Pieces.{joined-add, each_holds}
@@ -23,8 +23,8 @@ counter_bytes b iv i = each_holds (λ byte. byte < 2 ^ 8) _ b (λ k lt. mod_belo
 pub counter_is_block : (m : Mode) (i : ℕ) → IsBlock m (counter m.block m.iv i)
 counter_is_block m i = (length-counter m.block m.iv i, counter_bytes m.block m.iv i)
 
-pub makes_blocks : (m : Mode) (cipher : List Bool → List ℕ → List ℕ) (key : List Bool) → Enciphers cipher m → MakesBlocks m.block m.iv (cipher key)
-makes_blocks m cipher key is i = (is.is_block key (counter m.block m.iv i) (counter_is_block m i)).0
+pub makes_blocks : (m : Mode) (cipher : Cipher) (key : List Bool) → Enciphers cipher m → length key ≡ m.key → MakesBlocks m.block m.iv (cipher key)
+makes_blocks m cipher key is size i = (is.is_block key (counter m.block m.iv i) size (counter_is_block m i)).0
 
 module _ (b iv : ℕ) (cipher : List ℕ → List ℕ) (some : 0 < b) (makes : MakesBlocks b iv cipher) where
   length-keystream : (i n : ℕ) → length (keystream b iv cipher i n) ≡ n * b
@@ -82,8 +82,8 @@ module _ (b iv : ℕ) (cipher : List ℕ → List ℕ) (some : 0 < b) (makes : M
 
 pub ciphertext_fits : CiphertextFits
 ciphertext_fits = record {
-  blocks = makes_blocks;
   as_long = λ b iv cipher i part some makes. length-ciphertext b iv cipher some makes i part;
   front = λ b iv cipher i n part some makes. ciphertext-take b iv cipher some makes i n part;
   decrypts = λ b iv cipher i part some makes. ciphertext_twice b iv cipher some makes i part;
+  blocks = makes_blocks;
 }

@@ -1,5 +1,5 @@
 -- The steps of counter mode are a strong plan, and depend on the message in its bits alone.
-use Rattle.std.proofs.Common.{◌≡◌, ℕ, suc, ◌-◌, ◌*◌, ◌<◌, ◌≤◌, Bool, true, false, cond, List, [], ◌∷◌, ◌++◌, length, map, get_or, All, ◌⊎◌, inl, inr, refl, ap, ap₂, sym, subst, ◌∙◌, arith, length-append}
+use Rattle.std.proofs.Common.{◌≡◌, ℕ, suc, ◌+◌, ◌-◌, ◌*◌, ◌<◌, ◌≤◌, Bool, true, false, cond, List, [], ◌∷◌, ◌++◌, length, map, get_or, All, ◌⊎◌, inl, inr, refl, ap, ap₂, sym, subst, ◌∙◌, arith, length-append}
 use Rattle.std.proofs.lemmas.Bool.{cases_lt}
 use Rattle.std.proofs.lemmas.List.{length-map, map-append, append-nil, get_or_append_left, get_or-append_right}
 use Rattle.std.proofs.lemmas.List.Elements.{All-nil, All-tail, All-append, All-map}
@@ -7,8 +7,8 @@ use Rattle.mask_circuit.specs.Wires.{each}
 use Rattle.mask_shares.proofs.Lists.{length-each, get_or-each}
 use Rattle.mask_trace.specs.Steps.{InputBit, Public, Plain, Key, Step, IsThere, IsNotHeld, IsStrongStep, IsStrongPlan}
 use Rattle.mask_trace.specs.Privacy.{AreAlike, without_message}
-use Rattle.mask_modes.specs.CounterMode.{block_count, counter}
-use Rattle.mask_modes.specs.Steps.{Mode, Enciphers, blocks, block_step, refresh_step, steps_from, steps_of, is_due}
+use Rattle.mask_modes.specs.CounterMode.{block_count}
+use Rattle.mask_modes.specs.Steps.{Cipher, Mode, Enciphers, blocks, block_step, refresh_step, steps_from, steps_of, is_due}
 use Rattle.mask_modes.specs.Laws.{StepsAreStrong, RunsArePrivate}
 use Rattle.mask_trace.proofs.Showing.{plans_are_private}
 use Rattle.mask_modes.proofs.Keystreams.{length-counter}
@@ -46,6 +46,25 @@ key_once k more none u v lt within same = go (cases_lt u k) (cases_lt v k)
     go (inl below) (inr high) = subst IsNotHeld (sym same) (behind v high within)
     go (inr above) other = behind u above (omega arith)
 
+-- the key, public bits and message bits: all are there, and none of a register twice
+all_there : (k : ℕ) (public message : List Bool) → All (IsThere k 0) (each Key k ++ (map Public public ++ map Plain message))
+all_there k public message =
+    All-append (IsThere k 0) (each Key k) (map Public public ++ map Plain message) (key_there k 0)
+    (All-append (IsThere k 0) (map Public public) (map Plain message)
+    (All-map (IsThere k 0) Public public (λ i d lt. tt)) (All-map (IsThere k 0) Plain message (λ i d lt. tt)))
+
+all_once : (k : ℕ) (public message : List Bool) → IsOnce (each Key k ++ (map Public public ++ map Plain message))
+all_once k public message =
+    key_once k (map Public public ++ map Plain message)
+    (All-append IsNotHeld (map Public public) (map Plain message)
+    (All-map IsNotHeld Public public (λ i d lt. tt)) (All-map IsNotHeld Plain message (λ i d lt. tt)))
+
+length-all : (k : ℕ) (public message : List Bool) → length (each Key k ++ (map Public public ++ map Plain message)) ≡ k + (length public + length message)
+length-all k public message =
+    length-append (each Key k) (map Public public ++ map Plain message)
+    ∙ ap₂ (λ (a b : ℕ). a + b) (length-each Key k)
+    (length-append (map Public public) (map Plain message) ∙ ap₂ (λ (a b : ℕ). a + b) (length-map public Public) (length-map message Plain))
+
 -- MESSAGE BITS
 
 hidden : (xs ys : List Bool) → length xs ≡ length ys → map without_message (map Plain xs) ≡ map without_message (map Plain ys)
@@ -54,32 +73,32 @@ hidden [] (y ∷ ys) e = absurd (omega arith)
 hidden (x ∷ xs) [] e = absurd (omega arith)
 hidden (x ∷ xs) (y ∷ ys) e = ap (λ l. Plain false ∷ l) (hidden xs ys (omega arith))
 
+-- inputs with as many message bits are the same but for these
+inputs_are_alike : (k : ℕ) (public xs ys : List Bool) → length xs ≡ length ys →
+    map without_message (each Key k ++ (map Public public ++ map Plain xs)) ≡ map without_message (each Key k ++ (map Public public ++ map Plain ys))
+inputs_are_alike k public xs ys e = parts xs ∙ ap (λ l. map without_message (each Key k) ++ (map without_message (map Public public) ++ l)) (hidden xs ys e) ∙ sym (parts ys)
+  where
+    parts : (bs : List Bool) → map without_message (each Key k ++ (map Public public ++ map Plain bs))
+        ≡ map without_message (each Key k) ++ (map without_message (map Public public) ++ map without_message (map Plain bs))
+    parts bs =
+        map-append without_message (each Key k) (map Public public ++ map Plain bs)
+        ∙ ap (λ l. map without_message (each Key k) ++ l) (map-append without_message (map Public public) (map Plain bs))
+
 abbrev with_inputs : Step → List InputBit → Step
 with_inputs s is = record s { inputs = is }
 
-module _ (m : Mode) (cipher : List Bool → List ℕ → List ℕ) (is : Enciphers cipher m) where
+module _ (m : Mode) (cipher : Cipher) (is : Enciphers cipher m) where
   pub block_step_is_strong : (i : ℕ) (block : List ℕ) → length block ≡ m.block → IsStrongStep m.key 0 (block_step m i block)
-  block_step_is_strong i block e = record {
-    formed = is.formed;
-    strong = is.strong;
-    count = omega (arith, length-append (each Key m.key) (public ++ plain), length-append public plain, length-each Key m.key, publics, plains, is.inputs);
-    there = All-append (IsThere m.key 0) (each Key m.key) (public ++ plain) (key_there m.key 0)
-        (All-append (IsThere m.key 0) public plain (All-map (IsThere m.key 0) Public _ (λ k d lt. tt)) (All-map (IsThere m.key 0) Plain _ (λ k d lt. tt)));
-    once = key_once m.key (public ++ plain) (All-append IsNotHeld public plain (All-map IsNotHeld Public _ (λ k d lt. tt)) (All-map IsNotHeld Plain _ (λ k d lt. tt)));
-    fit = tt;
-  }
-    where
-      public : List InputBit
-      public = map Public (m.reading (counter m.block m.iv i))
-
-      plain : List InputBit
-      plain = map Plain (m.reading block)
-
-      publics : length public ≡ 8 * m.block
-      publics = length-map _ Public ∙ is.reads.count (counter m.block m.iv i) ∙ ap (λ (n : ℕ). 8 * n) (length-counter m.block m.iv i)
-
-      plains : length plain ≡ 8 * m.block
-      plains = length-map _ Plain ∙ is.reads.count block ∙ ap (λ (n : ℕ). 8 * n) e
+  block_step_is_strong i block e =
+      let bits : (bytes : List ℕ) → length bytes ≡ m.block → length (m.reading bytes) ≡ 8 * m.block = λ bytes size. is.reads.count bytes ∙ ap (λ (n : ℕ). 8 * n) size in
+      record {
+        formed = is.formed;
+        strong = is.strong;
+        count = length-all m.key _ (m.reading block) ∙ ap₂ (λ (a b : ℕ). m.key + (a + b)) (bits _ (length-counter m.block m.iv _)) (bits block e) ∙ sym is.inputs;
+        there = all_there m.key _ (m.reading block);
+        once = all_once m.key _ (m.reading block);
+        fit = tt;
+      }
 
   pub refresh_step_is_strong : IsStrongStep m.key 0 (refresh_step m)
   refresh_step_is_strong = record {
@@ -102,18 +121,6 @@ module _ (m : Mode) (cipher : List Bool → List ℕ → List ℕ) (is : Enciphe
       go true first rest = (refresh_step_is_strong, (first, rest))
       go false first rest = (first, rest)
 
-  -- the inputs of two blocks are the same but for the message bits
-  inputs_are_alike : (i : ℕ) (block other : List ℕ) → length block ≡ length other →
-      map without_message (block_step m i block).inputs ≡ map without_message (block_step m i other).inputs
-  inputs_are_alike i block other e =
-      let public = map Public (m.reading (counter m.block m.iv i)) in
-      map-append without_message (each Key m.key) (public ++ map Plain (m.reading block))
-      ∙ ap (λ l. map without_message (each Key m.key) ++ l)
-      (map-append without_message public (map Plain (m.reading block))
-      ∙ ap (λ l. map without_message public ++ l) (hidden (m.reading block) (m.reading other) (is.reads.count block ∙ ap (λ (n : ℕ). 8 * n) e ∙ sym (is.reads.count other)))
-      ∙ sym (map-append without_message public (map Plain (m.reading other))))
-      ∙ sym (map-append without_message (each Key m.key) (public ++ map Plain (m.reading other)))
-
   steps_are_alike : (i : ℕ) (part other : List (List ℕ)) → All (λ block. length block ≡ m.block) part → All (λ block. length block ≡ m.block) other →
       length part ≡ length other → AreAlike (steps_from m i part) (steps_from m i other)
   unfolding steps_from
@@ -123,7 +130,8 @@ module _ (m : Mode) (cipher : List Bool → List ℕ → List ℕ) (is : Enciphe
   steps_are_alike i (block ∷ part) (block' ∷ other) all all' e =
       go (is_due i)
       (ap₂ (λ (is : List InputBit) (l : List Step). with_inputs (block_step m i block) is ∷ l)
-      (inputs_are_alike i block block' (all 0 [] (omega arith) ∙ sym (all' 0 [] (omega arith))))
+      (inputs_are_alike m.key _ (m.reading block) (m.reading block')
+      (is.reads.count block ∙ ap (λ (n : ℕ). 8 * n) (all 0 [] (omega arith) ∙ sym (all' 0 [] (omega arith))) ∙ sym (is.reads.count block')))
       (steps_are_alike (suc i) part other (All-tail (λ b. length b ≡ m.block) block part all) (All-tail (λ b. length b ≡ m.block) block' other all') (omega arith)))
     where
       go : (due : Bool) → AreAlike (block_step m i block ∷ steps_from m (suc i) part) (block_step m i block' ∷ steps_from m (suc i) other) →

@@ -8,19 +8,22 @@ use Rattle.mask_shares.proofs.Lists.{length-each}
 use Rattle.mask_trace.specs.Steps.{Public, Plain, Key, plain_bits, stretch, bits_of}
 use Rattle.mask_trace.proofs.Inputs.{inputs_stand_in_parts}
 use Rattle.mask_trace.proofs.Traces.{traces_split, bits_of-cons}
-use Rattle.mask_modes.specs.CounterMode.{block_count, counter}
-use Rattle.mask_modes.specs.Steps.{Mode, Enciphers, block_at, blocks, block_step, refresh_step, steps_from, steps_of, ahead_of, is_due}
+use Rattle.mask_modes.specs.CounterMode.{block_count}
+use Rattle.mask_modes.specs.Steps.{Cipher, Mode, Enciphers, block_at, blocks, block_step, refresh_step, steps_from, steps_of, ahead_of, is_due}
 use Rattle.mask_modes.specs.Laws.{RunBits}
 use Rattle.mask_modes.proofs.Blocks.{blocks_are_long}
 
+-- the message bits behind a key and public bits
+plain_bits-behind : (k : ℕ) (public message : List Bool) → plain_bits (each Key k ++ (map Public public ++ map Plain message)) ≡ message
+plain_bits-behind k public message =
+    inputs_stand_in_parts.bits_of_both (each Key k) (map Public public ++ map Plain message)
+    ∙ ap₂ (λ (l r : List Bool). l ++ r) (inputs_stand_in_parts.bits_of_key k)
+    (inputs_stand_in_parts.bits_of_both (map Public public) (map Plain message)
+    ∙ ap₂ (λ (l r : List Bool). l ++ r) (inputs_stand_in_parts.bits_of_publics public) (inputs_stand_in_parts.bits_of_plains message))
+
 -- the message bits of a block are its bits
 pub plain_bits-block : (m : Mode) (i : ℕ) (block : List ℕ) → plain_bits (block_step m i block).inputs ≡ m.reading block
-plain_bits-block m i block =
-    let counted = m.reading (counter m.block m.iv i) in
-    inputs_stand_in_parts.bits_of_both (each Key m.key) (map Public counted ++ map Plain (m.reading block))
-    ∙ ap₂ (λ (l k : List Bool). l ++ k) (inputs_stand_in_parts.bits_of_key m.key)
-    (inputs_stand_in_parts.bits_of_both (map Public counted) (map Plain (m.reading block))
-    ∙ ap₂ (λ (l k : List Bool). l ++ k) (inputs_stand_in_parts.bits_of_publics counted) (inputs_stand_in_parts.bits_of_plains (m.reading block)))
+plain_bits-block m i block = plain_bits-behind m.key _ (m.reading block)
 
 -- one refresh more, where one is due
 refreshes-more : (i : ℕ) → (suc i + 63) / 64 - 1 ≡ (i + 63) / 64 - 1 + cond (is_due i) 1 0
@@ -39,7 +42,7 @@ one_more : (ahead due refresh block rest before after count : ℕ) → ahead ≡
     ahead + (block + rest) + before * refresh ≡ suc count * block + after * refresh
 one_more ahead due refresh block rest before after count a e = omega arith
 
-module _ (N : ℕ) (m : Mode) (cipher : List Bool → List ℕ → List ℕ) (is : Enciphers cipher m) where
+module _ (N : ℕ) (m : Mode) (cipher : Cipher) (is : Enciphers cipher m) where
   stretch-block : (i : ℕ) (block : List ℕ) → length block ≡ m.block → stretch N (block_step m i block) ≡ pred N * (8 * m.block) + draws m.circuit N
   stretch-block i block e =
       ap (λ (k : ℕ). pred N * k + draws m.circuit N) (ap length (plain_bits-block m i block) ∙ is.reads.count block ∙ ap (λ (k : ℕ). 8 * k) e)

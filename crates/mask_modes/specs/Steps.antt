@@ -69,9 +69,13 @@ steps_of m message = steps_from m 0 (blocks m.block message)
 abbrev pub IsBlock : Mode → List ℕ → Type 0
 IsBlock m bytes = (length bytes ≡ m.block) × AreBytes bytes
 
--- What a mode takes from a cipher and its circuits: cipher encrypts a block under the bits of a key, and the circuits,
--- which are strong, do what they are for.
-pub record Enciphers (cipher : List Bool → List ℕ → List ℕ) (m : Mode) : Type 0 where
+-- a cipher: the encryption of a block under the bits of a key
+abbrev pub Cipher : Type 0
+Cipher = List Bool → List ℕ → List ℕ
+
+-- What a mode takes from a cipher and its circuits: the cipher makes blocks of blocks, and the circuits, which are strong, do
+-- what they are for.
+pub record Enciphers (cipher : Cipher) (m : Mode) : Type 0 where
   pub formed : IsWellFormed m.circuit
   pub strong : IsStrong m.circuit
   pub refresh_formed : IsWellFormed m.refresh
@@ -82,7 +86,7 @@ pub record Enciphers (cipher : List Bool → List ℕ → List ℕ) (m : Mode) :
   pub refresh_inputs : m.refresh.inputs ≡ m.key
   pub refresh_outputs : length m.refresh.outputs ≡ m.key
   pub reads : IsReading m.reading
-  pub is_block : (key : List Bool) (counter : List ℕ) → IsBlock m counter → IsBlock m (cipher key counter)
+  pub is_block : (key : List Bool) (counter : List ℕ) → length key ≡ m.key → IsBlock m counter → IsBlock m (cipher key counter)
   pub value : (key : List Bool) (counter block : List ℕ) → length key ≡ m.key → IsBlock m counter → IsBlock m block →
       plain m.circuit (key ++ (m.reading counter ++ m.reading block)) ≡ m.reading (xor_bytes block (cipher key counter))
   pub refreshes : (key : List Bool) → length key ≡ m.key → plain m.refresh key ≡ key
