@@ -1,0 +1,3 @@
+pub mod CounterMode
+pub mod Laws
+pub mod Steps
