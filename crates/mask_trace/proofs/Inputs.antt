@@ -44,7 +44,7 @@ bits_of_state zero = refl
 bits_of_state (suc n) = bits_of_both (each State n) (State n ∷ []) ∙ ap (λ (bs : List Bool). bs ++ []) (bits_of_state n)
 
 -- a list is made by its own elements
-each-get_or : {A : Type 0} (xs : List A) (d : A) → each (λ i. get_or xs i d) (length xs) ≡ xs
+pub each-get_or : {A : Type 0} (xs : List A) (d : A) → each (λ i. get_or xs i d) (length xs) ≡ xs
 each-get_or xs d =
     let count = length-each (λ i. get_or xs i d) (length xs) in
     ext_get_or d (each (λ i. get_or xs i d) (length xs)) xs count (λ i lt. get_or-each (λ j. get_or xs j d) (length xs) i d (omega arith))

@@ -1,4 +1,5 @@
-mod TraceExamples
+pub mod TraceExamples
+mod StrongExamples
 pub mod Traces
 pub mod Drawing
 pub mod SideBySide
@@ -9,3 +10,4 @@ pub mod RunWires
 pub mod Woven
 pub mod Alike
 pub mod Showing
+pub mod Computing

@@ -5,3 +5,4 @@ pub mod Laws
 pub mod Privacy
 pub mod Steps
 pub mod Traces
+pub mod Values

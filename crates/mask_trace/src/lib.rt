@@ -4,3 +4,4 @@
 pub mod lanes;
 pub mod laws;
 pub mod privacy;
+pub mod values;
