@@ -134,7 +134,7 @@ pub fold_from : (a : Bool) (xs : List Bool) → fold xor a xs ≡ xor a (xor_all
 fold_from a [] = sym (xor-false a)
 fold_from a (x ∷ xs) = fold_from (xor a x) xs ∙ xor_assoc a x (xor_all xs)
 
-pub unmasked_is : (xs : List Bool) → unmasked bits xs ≡ xor_all xs
+unmasked_is : (xs : List Bool) → unmasked bits xs ≡ xor_all xs
 unmasked_is xs = fold_from false xs
 
 -- a list is made by its own elements
@@ -146,7 +146,7 @@ each_get xs d =
     lt_along : {i m n : ℕ} → m ≡ n → i < m → i < n
     lt_along e lt = omega arith
 
-pub each_map : {A B : Type 0} (f : A → B) (xs : List A) (d : A) → each (λ i. f (get_or xs i d)) (length xs) ≡ map f xs
+each_map : {A B : Type 0} (f : A → B) (xs : List A) (d : A) → each (λ i. f (get_or xs i d)) (length xs) ≡ map f xs
 each_map f xs d = sym (map-each f (λ i. get_or xs i d) (length xs)) ∙ ap (map f) (each_get xs d)
 
 -- the bits that the inputs share in a lane

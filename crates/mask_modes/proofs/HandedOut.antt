@@ -110,11 +110,11 @@ outputs_stand_for_ciphertext = record {
       let n = block_count m.block (length part) in
       let xors : (ℕ → List ℕ) → ℕ → List ℕ = λ block j. xor_bytes (block j) (cipher (key_of have) (counter m.block m.iv (i + j))) in
       let all : All (IsBlock m) (blocks m.block part) = each_holds (IsBlock m) (block_at m.block part) n (λ j lt. block_at_is_block m part j are) in
-      ends_in_ciphertext N m cipher two is (key_of have) i part (handed_out N have (steps_from m i (blocks m.block part)) r) out (length-map have.key _ ∙ has.0) are stand
+      ends_in_ciphertext N m cipher two is (key_of have) i part (handed_out N have (steps_from m i (blocks m.block part)) r) out (length-map have.key _ ∙ has.key) are stand
       (handed N m cipher two is (key_of have) have i (blocks m.block part) r has refl all
       ∙ ap (map m.reading)
       (ap (each (xors (λ j. get_or (blocks m.block part) j []))) (length-each (block_at m.block part) n)
       ∙ each-same _ _ n (λ j lt. ap (λ (block : List ℕ). xor_bytes block (cipher (key_of have) (counter m.block m.iv (i + j)))) (get_or-each (block_at m.block part) n j [] lt))));
   lanes = λ N m cipher have i part r out two is has are stand.
-      ends_in_ciphertext N m cipher two is (key_of have) i part _ out (length-map have.key _ ∙ has.0) are stand (blocks_encrypted N m cipher two is have i part r has are);
+      ends_in_ciphertext N m cipher two is (key_of have) i part _ out (length-map have.key _ ∙ has.key) are stand (blocks_encrypted N m cipher two is have i part r has are);
 }

@@ -12,5 +12,4 @@ pub mod Readings
 pub mod Splitting
 mod StepsExamples
 pub mod TapeBits
-pub mod Unmasked
 pub mod Xors

@@ -1,19 +1,20 @@
 -- What a run in counter mode holds and hands out.
-use Rattle.std.specs.Prelude.{◌≡◌, ℕ, ◌+◌, Bool, List, [], ◌∷◌, ◌++◌, map, length, drop, All}
+use Rattle.std.specs.Prelude.{◌≡◌, ℕ, ◌+◌, Bool, List, [], ◌∷◌, ◌++◌, map, drop, All}
 use Rattle.mask_circuit.specs.Ring.{bits}
 use Rattle.mask_shares.specs.Sharing.{unmasked}
 use Rattle.mask_trace.specs.Steps.{Registers, Keeps, Nothing, AsKey, AsState, Step, stretch}
+use Rattle.mask_trace.specs.Values.{HasShares, values_of}
 use Rattle.mask_trace.specs.Traces.{BitShares, output_shares, after_step}
 use Rattle.mask_modes.specs.CounterMode.{counter, xor_bytes}
 use Rattle.mask_modes.specs.Steps.{Mode, IsBlock, block_at}
 
+-- the key is there, in N shares of each bit, and there is no state
+abbrev pub HasKey : ℕ → Mode → Registers BitShares → Type 0
+HasKey N m have = HasShares N m.key 0 have
+
 -- the bits of the key that these shares stand for
 abbrev pub key_of : Registers BitShares → List Bool
-key_of have = map (unmasked bits) have.key
-
--- the key is there, in N shares of each bit
-abbrev pub HasKey : ℕ → Mode → Registers BitShares → Type 0
-HasKey N m have = (length have.key ≡ m.key) × All (λ shares. length shares ≡ N) have.key
+key_of have = (values_of have).key
 
 -- block j of the ciphertext of a part that begins with block i, where the last block of the part is filled up
 abbrev pub ciphertext_block : ℕ → ℕ → (List ℕ → List ℕ) → ℕ → List ℕ → ℕ → List ℕ
