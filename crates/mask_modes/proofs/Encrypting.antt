@@ -5,7 +5,7 @@ use Rattle.std.proofs.lemmas.Simd.{map-map}
 use Rattle.mask_circuit.specs.Value.{plain}
 use Rattle.mask_circuit.specs.Ring.{bits}
 use Rattle.mask_circuit.specs.Wires.{each}
-use Rattle.mask_shares.specs.Sharing.{unmasked}
+use Rattle.mask_circuit.specs.Sharing.{unmasked}
 use Rattle.mask_gadget.proofs.Made.{map-each}
 use Rattle.mask_trace.specs.Steps.{Public, Plain, Key, Registers, stretch}
 use Rattle.mask_trace.specs.Traces.{BitShares, output_shares, after_step, after}

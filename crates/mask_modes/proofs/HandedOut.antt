@@ -6,7 +6,7 @@ use Rattle.std.proofs.lemmas.List.Concat.{concat_is}
 use Rattle.std.proofs.lemmas.List.Elements.{All-tail}
 use Rattle.mask_circuit.specs.Ring.{bits}
 use Rattle.mask_circuit.specs.Wires.{each}
-use Rattle.mask_shares.specs.Sharing.{unmasked}
+use Rattle.mask_circuit.specs.Sharing.{unmasked}
 use Rattle.mask_shares.proofs.Lists.{length-each, get_or-each}
 use Rattle.mask_gadget.proofs.Made.{map-each, each-same, flat_map-each}
 use Rattle.mask_trace.specs.Steps.{Registers, stretch}

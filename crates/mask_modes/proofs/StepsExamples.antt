@@ -4,7 +4,7 @@ use Rattle.mask_bits.specs.Reading.{low}
 use Rattle.mask_circuit.specs.declared.gates.Gate.TheVariants.{Xor, Ref}
 use Rattle.mask_circuit.specs.Ring.{bits}
 use Rattle.mask_circuit.specs.Wires.{each}
-use Rattle.mask_shares.specs.Sharing.{unmasked}
+use Rattle.mask_circuit.specs.Sharing.{unmasked}
 use Rattle.mask_trace.specs.Steps.{Registers, bits_of}
 use Rattle.mask_trace.specs.Traces.{BitShares, after}
 use Rattle.mask_modes.specs.CounterMode.{counter_mode, ciphertext_from, keystream}

@@ -5,7 +5,7 @@ use Rattle.mask_bits.specs.Reading.{lowest, low, high, big_endian}
 use Rattle.mask_circuit.specs.Ring.{bits}
 use Rattle.mask_circuit.specs.Wires.{each, joined}
 use Rattle.mask_circuit.specs.Expansion.{draws}
-use Rattle.mask_shares.specs.Sharing.{unmasked}
+use Rattle.mask_circuit.specs.Sharing.{unmasked}
 use Rattle.mask_trace.specs.Steps.{Registers, IsStrongPlan, bits_of, sharing_bits}
 use Rattle.mask_trace.specs.Traces.{BitShares, after, output_shares}
 use Rattle.mask_trace.specs.Privacy.{AreAlike, trace_hits}

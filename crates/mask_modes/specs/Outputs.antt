@@ -1,7 +1,7 @@
 -- What a run in counter mode holds and hands out.
 use Rattle.std.specs.Prelude.{◌≡◌, ℕ, ◌+◌, Bool, List, [], ◌∷◌, ◌++◌, map, drop, All}
 use Rattle.mask_circuit.specs.Ring.{bits}
-use Rattle.mask_shares.specs.Sharing.{unmasked}
+use Rattle.mask_circuit.specs.Sharing.{unmasked}
 use Rattle.mask_trace.specs.Steps.{Registers, Keeps, Nothing, AsKey, AsState, Step, stretch}
 use Rattle.mask_trace.specs.Values.{HasShares, values_of}
 use Rattle.mask_trace.specs.Traces.{BitShares, output_shares, after_step}
