@@ -5,12 +5,11 @@ use Rattle.mask_circuit.specs.Value.{xor}
 use Rattle.mask_bits.specs.Reading.{bit}
 use Rattle.mask_bits.specs.Lanes.{lane}
 use Rattle.mask_circuit.specs.Ring.{Ring, bits, words}
-use Rattle.mask_laws.specs.Sharing.{xor_all}
 use Rattle.mask_laws.proofs.Bits.{xor-false, xor_assoc, xor_self}
+use Rattle.mask_laws.proofs.BitSums.{fold-xor}
 use Rattle.mask_shares.specs.Sharing.{shared, all_shared, unmasked}
 use Rattle.mask_gadget.proofs.Lanes.{Keeps, keeps_lane}
 use Rattle.mask_tape.specs.Drawn.{Drawn, ahead}
-use Rattle.mask_eval.proofs.LaneRuns.{fold_from}
 
 -- one coin more
 pub ahead_more : (n : ℕ) (c : Drawn) → c.used + n < length c.words → ahead (n + 1) c ≡ ahead n c ++ get_or c.words (c.used + n) 0 ∷ []
@@ -51,10 +50,10 @@ unmasked_in_lane l shares =
 -- the sum of all shares is the value
 pub shared-unmasks : (b : Bool) (coins : List Bool) → unmasked bits (shared bits b coins) ≡ b
 shared-unmasks b coins =
-    fold_from (fold xor b coins) coins
-    ∙ ap (λ (x : Bool). xor x (xor_all coins)) (fold_from b coins)
-    ∙ xor_assoc b (xor_all coins) (xor_all coins)
-    ∙ ap (xor b) (xor_self (xor_all coins))
+    fold-xor (fold xor b coins) coins
+    ∙ ap (λ (x : Bool). xor x (unmasked bits coins)) (fold-xor b coins)
+    ∙ xor_assoc b (unmasked bits coins) (unmasked bits coins)
+    ∙ ap (xor b) (xor_self (unmasked bits coins))
     ∙ xor-false b
 
 pub all_shared-unmask : (d : ℕ) (bs coins : List Bool) → map (unmasked bits) (all_shared bits d bs coins) ≡ bs
@@ -65,17 +64,6 @@ all_shared-unmask d (b ∷ bs) coins =
 -- STEPS
 
 module _ {X : Type 0} (R : Ring X) where
-  -- just d coins are used for each value
-  pub all_shared-take : (d : ℕ) (xs coins : List X) → all_shared R d xs (take (d * length xs) coins) ≡ all_shared R d xs coins
-  all_shared-take d [] coins = refl
-  all_shared-take d (x ∷ xs) coins =
-      let more : d * suc (length xs) ≡ d + d * length xs = omega arith in
-      let first : take d (take (d + d * length xs) coins) ≡ take d coins = take-take d (d + d * length xs) coins (omega arith) in
-      let rest : drop d (take (d + d * length xs) coins) ≡ take (d * length xs) (drop d coins) = drop-take d (d * length xs) coins in
-      ap (λ (n : ℕ). all_shared R d (x ∷ xs) (take n coins)) more
-      ∙ ap₂ (λ (s t : List X). shared R x s ∷ all_shared R d xs t) first rest
-      ∙ ap (λ (ss : List (List X)). shared R x (take d coins) ∷ ss) (all_shared-take d xs (drop d coins))
-
   -- one value more
   pub all_shared-push : (d : ℕ) (xs : List X) (x : X) (coins : List X) →
       all_shared R d (xs ++ x ∷ []) coins ≡ all_shared R d xs coins ++ shared R x (take d (drop (d * length xs) coins)) ∷ []

@@ -6,7 +6,7 @@ use Rattle.std.proofs.lemmas.Simd.{map-map}
 use Rattle.std.proofs.lemmas.Nat.{and_mask}
 use Rattle.std.proofs.lemmas.Nat.Bits.{bit_at_lowest}
 use Rattle.std.specs.declared.option.Option.{Option}
-use Rattle.mask_bits.specs.Reading.{bit, low}
+use Rattle.mask_bits.specs.Reading.{bit, low, bytes_for}
 use Rattle.mask_bits.specs.Lanes.{lane}
 use Rattle.mask_circuit.specs.Netlist.{Netlist}
 use Rattle.mask_circuit.specs.Ring.{bits, words}
@@ -14,8 +14,8 @@ use Rattle.mask_circuit.specs.Expansion.{draws, outs}
 use Rattle.mask_shares.specs.Sharing.{all_listed, all_shared, unmasked}
 use Rattle.mask_tape.specs.Tape.{IsDrawn}
 use Rattle.mask_eval.specs.Watching.{Told, reports}
-use Rattle.mask_eval.proofs.Shared.{all_shared_in_lane, unmasked_in_lane, all_shared-unmask, all_shared-take}
-use Rattle.mask_run.specs.Outside.{bytes_for}
+use Rattle.mask_laws.proofs.Sharings.{all_shared-take}
+use Rattle.mask_eval.proofs.Shared.{all_shared_in_lane, unmasked_in_lane, all_shared-unmask}
 use Rattle.mask_run.specs.Calls.{value_by_value, eval_bits, eval_call}
 use Rattle.mask_run.specs.Lanes.{words_of, first_bit}
 

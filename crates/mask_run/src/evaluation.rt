@@ -1,17 +1,18 @@
 //! The evaluation of a circuit on shares of plain bits, in one lane.
 
 ghost use Rattle.std.specs.Prelude.{◌≡◌, ℕ, ◌+◌, ◌-◌, ◌*◌, ◌^◌, ◌<◌, ◌≤◌, [], ◌∷◌, length, map, drop, IfOk, IfErr, OnOk, OnErr};
-ghost use Rattle.mask_io.specs.Outside.{Rose};
+ghost use Rattle.mask_io.specs.Outside.{faults_after};
+ghost use Rattle.mask_bits.specs.Reading.{bytes_for};
 ghost use Rattle.mask_bits.specs.Lanes.{lane};
 ghost use Rattle.mask_circuit.specs.Netlist.{Netlist};
 ghost use Rattle.mask_circuit.specs.Ring.{words};
 ghost use Rattle.mask_circuit.specs.Value.{plain};
 ghost use Rattle.mask_shares.specs.Sharing.{all_shared};
 ghost use Rattle.mask_tape.specs.Drawn.{left};
+ghost use Rattle.mask_tape.specs.Tape.{failed_to_draw};
 ghost use Rattle.mask_tape.specs.declared.tape.TapeError.TheVariants.{Failed, NoMemory};
 ghost use Rattle.mask_eval.specs.Frames.{IsFrameOf, input_values};
 ghost use Rattle.mask_eval.specs.Watching.{told_more};
-ghost use Rattle.mask_run.specs.Outside.{bytes_for};
 ghost use Rattle.mask_run.specs.Calls.{eval_bits, eval_call, Evaluates, TellsSecureCalls};
 ghost use Rattle.mask_run.specs.Hexadecimal.{IsReport};
 ghost use Rattle.mask_run.specs.Lanes.{words_of, first_bit};
@@ -58,8 +59,9 @@ pub(crate) fn evaluate<const N: usize, E: Entropy, W: Watch, L: Ledger>(
     // Nothing was drawn or told, where there is no answer.
     ensures left { OnErr result (E.left tape.new ≡ E.left tape.old) }
     ensures told { OnErr result (W.told watch.new ≡ W.told watch.old) }
-    ensures failed { IfErr result (λ e. e ≡ Failed → Rose (E.faults tape.old) (E.faults tape.new)
-        × (E.wanted tape.new ≡ bytes_for (eval_bits prepared.now.circuit order)) × (1 ≤ E.wanted tape.new)) }
+    ensures failed { IfErr result (λ e. e ≡ Failed → (E.wanted tape.new ≡ bytes_for (eval_bits prepared.now.circuit order))
+        × (1 ≤ E.wanted tape.new)) }
+    ensures counts { E.faults tape.new ≡ faults_after (failed_to_draw result) (E.faults tape.old) }
     ensures no_memory { IfErr result (λ e. e ≡ NoMemory → tape.new ≡ tape.old) }
     ensures idle { eval_bits prepared.now.circuit order ≡ 0 → tape.new ≡ tape.old }
     ensures steps { steps.new ≤ steps.old + length prepared.now.circuit.gates }

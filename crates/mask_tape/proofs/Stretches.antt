@@ -2,7 +2,7 @@
 use Rattle.std.proofs.Common.{◌≡◌, ℕ, ◌+◌, ◌-◌, ◌*◌, ◌/◌, ◌≤◌, Bool, List, [], ◌∷◌, ◌++◌, length, drop, get_or, sym, ap, ◌∙◌, arith, length-drop}
 use Rattle.std.proofs.lemmas.List.{drop-append-le, drop-drop, drop_more, drop_all}
 use Rattle.mask_bits.specs.Reading.{low, lowest}
-use Rattle.mask_tape.specs.Tape.{bytes_for, IsSpread}
+use Rattle.mask_tape.specs.Tape.{new_bytes, IsSpread}
 use Rattle.mask_tape.proofs.Windows.{low-drop}
 
 -- the kept bits and the new bytes are all bytes from some bit on
@@ -12,7 +12,7 @@ stretch kept last from fresh le kept_is = sym (drop-append-le from (lowest 8 las
 
 -- how many new bytes n bits need
 pub count_is : (kept : List Bool) (last from n : ℕ) → 1 ≤ from → from ≤ 8 → drop from (low (last ∷ [])) ≡ kept →
-    (from + n - 1) / 8 ≡ bytes_for kept n
+    (from + n - 1) / 8 ≡ new_bytes kept n
 count_is kept last from n some le kept_is =
     let long : length kept ≡ 8 - from = sym (ap length kept_is) ∙ length-drop from (low (last ∷ [])) in omega arith
 

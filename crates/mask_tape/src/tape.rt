@@ -1,8 +1,8 @@
 //! The tape: entropy read bit by bit, of which the bits of a last byte are kept.
 
 ghost use Rattle.std.specs.Prelude.{◌≡◌, ℕ, ◌+◌, ◌*◌, ◌^◌, ◌<◌, ◌≤◌, [], ◌∷◌, List, length, IfOk, IfErr, OnOk, OnErr};
-ghost use Rattle.mask_io.specs.Outside.{Takes, Rose, NeverFalls};
-ghost use Rattle.mask_tape.specs.Tape.{bytes_for, IsDrawn};
+ghost use Rattle.mask_io.specs.Outside.{faults_after, Takes};
+ghost use Rattle.mask_tape.specs.Tape.{new_bytes, failed_to_draw, IsDrawn};
 ghost use Rattle.mask_tape.specs.declared.tape.TapeError.TheVariants.{Failed, NoMemory};
 
 use crate::coins::Coins;
@@ -84,13 +84,13 @@ impl Tape {
         ensures wants { OnOk result (E.wanted entropy.new ≡ E.wanted entropy.old) }
         ensures same { OnErr result (self.new ≡ self.old) }
         ensures left { OnErr result (E.left entropy.new ≡ E.left entropy.old) }
-        ensures failed { IfErr result (λ e. e ≡ Failed → Rose (E.faults entropy.old) (E.faults entropy.new)
-            × (E.wanted entropy.new ≡ bytes_for self.old (lanes * bits)) × (1 ≤ E.wanted entropy.new)) }
+        ensures failed { IfErr result (λ e. e ≡ Failed → (E.wanted entropy.new ≡ new_bytes self.old (lanes * bits))
+            × (1 ≤ E.wanted entropy.new)) }
         ensures no_memory { IfErr result (λ e. e ≡ NoMemory → entropy.new ≡ entropy.old) }
 
         // No new byte is needed: the entropy isn't asked.
-        ensures unasked { bytes_for self.old (lanes * bits) ≡ 0 → entropy.new ≡ entropy.old }
-        ensures never_falls { NeverFalls (E.faults entropy.old) (E.faults entropy.new) }
+        ensures unasked { new_bytes self.old (lanes * bits) ≡ 0 → entropy.new ≡ entropy.old }
+        ensures counts { E.faults entropy.new ≡ faults_after (failed_to_draw result) (E.faults entropy.old) }
     {
         let lanes = lanes as usize;
         let bits = bits as usize;
@@ -118,11 +118,10 @@ fn draw<E: Entropy>(
         × Takes (E.left entropy.old) (E.left entropy.new) fresh) }
     ensures wants { OnOk result (E.wanted entropy.new ≡ E.wanted entropy.old) }
     ensures left { OnErr result (E.left entropy.new ≡ E.left entropy.old) }
-    ensures failed { IfErr result (λ e. e ≡ Failed → Rose (E.faults entropy.old) (E.faults entropy.new)
-        × (E.wanted entropy.new ≡ count) × (1 ≤ count)) }
+    ensures failed { IfErr result (λ e. e ≡ Failed → (E.wanted entropy.new ≡ count) × (1 ≤ count)) }
     ensures no_memory { IfErr result (λ e. e ≡ NoMemory → entropy.new ≡ entropy.old) }
     ensures unasked { count ≡ 0 → entropy.new ≡ entropy.old }
-    ensures never_falls { NeverFalls (E.faults entropy.old) (E.faults entropy.new) }
+    ensures counts { E.faults entropy.new ≡ faults_after (failed_to_draw result) (E.faults entropy.old) }
 {
     let mut bytes = vec![in alloc; 0; count + 1]?;
     bytes[0] = last;
