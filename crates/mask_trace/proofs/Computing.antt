@@ -1,6 +1,5 @@
 -- What the shares of a run stand for, and that each evaluation of it is one.
 use Rattle.std.proofs.Common.{◌≡◌, ℕ, zero, suc, pred, ◌+◌, ◌*◌, ◌<◌, ◌≤◌, Bool, false, List, [], ◌∷◌, ◌++◌, length, map, take, drop, get_or, All, refl, ap, ap₂, sym, subst, ◌∙◌, arith, length-drop}
-use Rattle.std.proofs.Math.Path.{fun_ext}
 use Rattle.std.proofs.lemmas.Bool.{ne_eqb}
 use Rattle.std.proofs.lemmas.List.{length-take, length-take-le, length-map, get_or-map, map-append, drop-map, drop-drop}
 use Rattle.std.proofs.lemmas.List.Elements.{All-nil, All-cons, All-tail, All-map, All-append, All-drop}
@@ -9,13 +8,13 @@ use Rattle.mask_circuit.specs.Netlist.{Netlist}
 use Rattle.mask_circuit.specs.Value.{xor, plain}
 use Rattle.mask_circuit.specs.Ring.{bits}
 use Rattle.mask_circuit.specs.Wires.{each, on_first}
-use Rattle.mask_laws.specs.Sharing.{xor_all, unshared}
+use Rattle.mask_laws.specs.Sharing.{unshared}
 use Rattle.mask_laws.proofs.Bits.{xor-false}
+use Rattle.mask_laws.proofs.BitSums.{fold-xor, unmasked-each, total_same, total_none}
 use Rattle.mask_laws.proofs.Unmasking.{outputs_unmask}
-use Rattle.mask_shares.specs.Sharing.{listed, all_listed, shared, unmasked}
+use Rattle.mask_circuit.specs.Sharing.{listed, all_listed, shared, unmasked}
 use Rattle.mask_shares.proofs.Lists.{length-each, each-same}
 use Rattle.mask_gadget.proofs.Made.{map-each}
-use Rattle.mask_eval.proofs.LaneRuns.{fold_from}
 use Rattle.mask_eval.proofs.Shared.{shared-unmasks}
 use Rattle.mask_trace.specs.Steps.{InputBit, Public, Plain, Key, State, Nothing, AsKey, AsState, Keeps, Registers, Step, IsThere, IsStrongStep, IsStrongPlan, Fit, kept, state_after, plain_bits, stretch}
 use Rattle.mask_trace.specs.Traces.{BitShares, input_shares, gate_tape, output_shares, evaluation, after_step, after, trace}
@@ -27,35 +26,29 @@ use Rattle.mask_trace.proofs.Traces.{bits_of-cons}
 
 -- SHARES
 
-unmasked_is : (xs : List Bool) → unmasked bits xs ≡ xor_all xs
-unmasked_is xs = fold_from false xs
-
 -- the first element stands apart
 each-first : {A : Type 0} (f : ℕ → A) (n : ℕ) → each f (suc n) ≡ f 0 ∷ each (λ i. f (suc i)) n
 each-first f zero = refl
 each-first f (suc n) = ap (λ (xs : List _). xs ++ f (suc n) ∷ []) (each-first f n)
 
--- no shares, read as n of them
-no_shares : (n : ℕ) → xor_all (each (listed bits []) n) ≡ false
-no_shares zero = refl
-no_shares (suc n) = ap xor_all (each-first (listed bits []) n) ∙ no_shares n
+-- the first share and the others
+unmasked-first : (f : ℕ → Bool) (n : ℕ) → unmasked bits (each f (suc n)) ≡ xor (f 0) (unmasked bits (each (λ i. f (suc i)) n))
+unmasked-first f n = ap (unmasked bits) (each-first f n) ∙ fold-xor (f 0) (each (λ i. f (suc i)) n)
 
 -- no more than n shares, read as n of them, stand for the same bit
 unshared_is : (n : ℕ) (shares : BitShares) → length shares ≤ n → unshared n (listed bits shares) ≡ unmasked bits shares
-unshared_is n shares few = go n shares few ∙ sym (unmasked_is shares)
-  where
-    go : (n : ℕ) (shares : BitShares) → length shares ≤ n → xor_all (each (listed bits shares) n) ≡ xor_all shares
-    go n [] few = no_shares n
-    go zero (b ∷ shares) few = absurd (omega arith)
-    go (suc n) (b ∷ shares) few = ap xor_all (each-first (listed bits (b ∷ shares)) n) ∙ ap (xor b) (go n shares (omega arith))
+unshared_is n [] few = unmasked-each (listed bits []) n ∙ total_none n
+unshared_is zero (b ∷ shares) few = absurd (omega arith)
+unshared_is (suc n) (b ∷ shares) few =
+    unmasked-first (listed bits (b ∷ shares)) n ∙ ap (xor b) (unshared_is n shares (omega arith)) ∙ sym (fold-xor b shares)
 
 -- a public bit stands for itself
 public-unmasks : (b : Bool) (N : ℕ) → 1 ≤ N → unmasked bits (each (on_first bits b) N) ≡ b
 public-unmasks b zero some = absurd (omega arith)
 public-unmasks b (suc n) some =
-    unmasked_is (each (on_first bits b) (suc n))
-    ∙ ap xor_all (each-first (on_first bits b) n)
-    ∙ ap (xor b) (ap xor_all (each-same _ (listed bits []) n (λ i lt. rw (ne_eqb (suc i) 0 (λ e. omega arith)) refl)) ∙ no_shares n)
+    unmasked-first (on_first bits b) n
+    ∙ ap (xor b) (unmasked-each (λ i. on_first bits b (suc i)) n
+    ∙ total_same _ (λ i. false) n (λ i lt. rw (ne_eqb (suc i) 0 (λ e. omega arith)) refl) ∙ total_none n)
     ∙ xor-false b
 
 -- INPUTS
@@ -134,8 +127,7 @@ outputs_stand : (N k s : ℕ) (have : Registers BitShares) (t : Step) (r : List 
     map (unmasked bits) (output_shares N have t r) ≡ step_value (values_of have) t
 outputs_stand N k s have t r some is has =
     let values = input_shares N have t.inputs r in
-    ap (λ (f : List Bool → Bool). map f (output_shares N have t r)) (fun_ext unmasked_is)
-    ∙ outputs_unmask t.circuit N (all_listed bits values) (gate_tape N t r) is.formed some
+    outputs_unmask t.circuit N (all_listed bits values) (gate_tape N t r) is.formed some
     ∙ ap (plain t.circuit)
     (ap (each (λ v. unshared N (all_listed bits values v))) (sym is.count ∙ sym (length-input_shares N have t.inputs r))
     ∙ each-same _ _ (length values) (λ v lt. unshared_is N (get_or values v []) (few_shares N k s have has some t.inputs r is.there v [] lt))

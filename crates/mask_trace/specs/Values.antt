@@ -5,7 +5,7 @@ use Rattle.mask_circuit.specs.Value.{plain}
 use Rattle.mask_circuit.specs.Ring.{bits}
 use Rattle.mask_circuit.specs.Expansion.{draws, outs}
 use Rattle.mask_circuit.specs.Acceptance.{IsStrong}
-use Rattle.mask_shares.specs.Sharing.{all_listed, unmasked}
+use Rattle.mask_circuit.specs.Sharing.{all_listed, unmasked}
 use Rattle.mask_eval.specs.Watching.{Told, told_more}
 use Rattle.mask_trace.specs.Steps.{InputBit, Public, Plain, Key, State, Registers, Step, kept, state_after, bits_of, IsStrongStep, IsStrongPlan}
 use Rattle.mask_trace.specs.Traces.{BitShares, value_by_value, output_shares, after, trace}
