@@ -22,7 +22,7 @@ returns-clause-evaluates g c =
     c.set_inputs.ensures.values
     ∙ ap (λ (n : ℕ). inputs_of g.row.N c.args.before.now c.args.plain.now c.args.behind.now (drop n c.in-Ok.coins.words)) c.in-Ok.ensures.unused in
     let behind : ahead (draws c.args.circuit.now g.row.N) c.set_inputs.new.coins
-        ≡ coins_behind c.args.circuit.now g.row.N (length c.args.plain.now) c.in-Ok.coins.words =
+    ≡ coins_behind c.args.circuit.now g.row.N (length c.args.plain.now) c.in-Ok.coins.words =
     ap₂ (λ (n : ℕ) (ws : List ℕ). take (draws c.args.circuit.now g.row.N) (drop n ws)) spent c.set_inputs.ensures.same in
     record {
       coins = coins;
