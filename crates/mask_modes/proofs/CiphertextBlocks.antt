@@ -24,7 +24,8 @@ pieces b (suc n) xs =
     ap (λ l. l ++ take b (drop (n * b) xs)) (pieces b n xs) ∙ sym (take-add (n * b) b xs) ∙ ap (λ (k : ℕ). take k xs) e
 
 -- an element of pieces of b elements each
-get_or-joined : {A : Type 0} (f : ℕ → List A) (b n j p : ℕ) (d : A) → ((i : ℕ) → length (f i) ≡ b) → j < n → p < b → get_or (joined f n) (j * b + p) d ≡ get_or (f j) p d
+get_or-joined : {A : Type 0} (f : ℕ → List A) (b n j p : ℕ) (d : A) → ((i : ℕ) → length (f i) ≡ b) → j < n → p < b →
+    get_or (joined f n) (j * b + p) d ≡ get_or (f j) p d
 get_or-joined f b zero j p d size lt below = absurd (omega arith)
 get_or-joined f b (suc n) j p d size lt below =
     let long : length (joined f n) ≡ n * b = length-joined f b n size in
@@ -38,14 +39,16 @@ get_or-joined f b (suc n) j p d size lt below =
     ]
 
 -- what stands piece by piece
-joined_xors : (f g : ℕ → List ℕ) (b n : ℕ) → ((i : ℕ) → length (f i) ≡ b) → ((i : ℕ) → length (g i) ≡ b) → joined (λ i. xor_bytes (f i) (g i)) n ≡ xor_bytes (joined f n) (joined g n)
+joined_xors : (f g : ℕ → List ℕ) (b n : ℕ) → ((i : ℕ) → length (f i) ≡ b) → ((i : ℕ) → length (g i) ≡ b) →
+    joined (λ i. xor_bytes (f i) (g i)) n ≡ xor_bytes (joined f n) (joined g n)
 joined_xors f g b zero size size' = refl
 joined_xors f g b (suc n) size size' =
     ap (λ l. l ++ xor_bytes (f n) (g n)) (joined_xors f g b n size size')
     ∙ sym (xor_bytes-append (joined f n) (f n) (joined g n) (g n) (length-joined f b n size ∙ sym (length-joined g b n size')))
 
 -- the blocks of a part end to end are the part, filled up
-joined_blocks : (b : ℕ) (part : List ℕ) → 0 < b → joined (block_at b part) (block_count b (length part)) ≡ take (block_count b (length part) * b) (part ++ replicate b 0)
+joined_blocks : (b : ℕ) (part : List ℕ) → 0 < b →
+    joined (block_at b part) (block_count b (length part)) ≡ take (block_count b (length part) * b) (part ++ replicate b 0)
 joined_blocks b part some =
     let n = block_count b (length part) in
     let up_to : n * b ≤ length part + (b - 1) = div-mul-le_self (length part + (b - 1)) b in
@@ -60,7 +63,8 @@ module _ (b iv : ℕ) (cipher : List ℕ → List ℕ) (some : 0 < b) (makes : M
       let long = makes (i + j) in
       length-xor_bytes (block_at b part j) (cipher (counter b iv (i + j))) (omega (arith, length-block_at b part j)) ∙ length-block_at b part j
 
-  pub ciphertext_whole : (i : ℕ) (part : List ℕ) → ciphertext_from b iv cipher i part ≡ take (length part) (joined (ciphertext_block b iv cipher i part) (block_count b (length part)))
+  pub ciphertext_whole : (i : ℕ) (part : List ℕ) →
+      ciphertext_from b iv cipher i part ≡ take (length part) (joined (ciphertext_block b iv cipher i part) (block_count b (length part)))
   unfolding ciphertext_from keystream
   ciphertext_whole i part =
       let n = block_count b (length part) in

@@ -1,5 +1,5 @@
 -- The steps of counter mode encrypt, and keep the key.
-use Rattle.std.proofs.Common.{◌≡◌, ℕ, suc, ◌≤◌, Bool, true, false, cond, List, [], ◌∷◌, ◌++◌, length, map, drop, refl, ap, ap₂, sym, ◌∙◌, arith}
+use Rattle.std.proofs.Common.{◌≡◌, ℕ, suc, ◌≤◌, Bool, true, false, cond, List, [], ◌∷◌, ◌++◌, map, length, drop, refl, ap, ap₂, sym, ◌∙◌, arith}
 use Rattle.std.proofs.lemmas.List.{length-map, map-append, map-id, append-nil, drop_all}
 use Rattle.std.proofs.lemmas.Simd.{map-map}
 use Rattle.mask_circuit.specs.Value.{plain}
@@ -36,11 +36,12 @@ module _ (N : ℕ) (m : Mode) (cipher : Cipher) (two : 2 ≤ N) (is : Enciphers 
   pub encrypted : (have : Registers BitShares) (i : ℕ) (block : List ℕ) (r : List Bool) → HasKey N m have → IsBlock m block →
       map (unmasked bits) (output_shares N have (block_step m i block) r) ≡ m.reading (xor_bytes block (cipher (key_of have) (counter m.block m.iv i)))
   encrypted have i block r has block_is =
+      let count = counter m.block m.iv i in
       let size : length (key_of have) ≡ m.key = length-map have.key _ ∙ has.key in
       runs_compute.outputs N m.key 0 have (block_step m i block) r (omega arith) (block_step_is_strong m cipher is i block block_is.0) has
-      ∙ ap (λ (k : ℕ). plain m.circuit (map (input_value (values_of have)) (each Key k ++ (map Public (m.reading (counter m.block m.iv i)) ++ map Plain (m.reading block))))) (sym size)
-      ∙ ap (plain m.circuit) (all_values (values_of have) (m.reading (counter m.block m.iv i)) (m.reading block))
-      ∙ is.value (key_of have) (counter m.block m.iv i) block size (counter_is_block m i) block_is
+      ∙ ap (λ (k : ℕ). plain m.circuit (map (input_value (values_of have)) (each Key k ++ (map Public (m.reading count) ++ map Plain (m.reading block))))) (sym size)
+      ∙ ap (plain m.circuit) (all_values (values_of have) (m.reading count) (m.reading block))
+      ∙ is.value (key_of have) count block size (counter_is_block m i) block_is
 
   -- a refresh gives the key new shares, and no other value
   pub refreshed : (have : Registers BitShares) (r : List Bool) → HasKey N m have →

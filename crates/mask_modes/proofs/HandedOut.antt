@@ -1,5 +1,5 @@
 -- What the steps of counter mode hand out stands for the ciphertext.
-use Rattle.std.proofs.Common.{◌≡◌, ℕ, suc, ◌+◌, ◌≤◌, Bool, true, false, cond, List, [], ◌∷◌, ◌++◌, length, map, take, drop, get_or, All, refl, ap, ap₂, sym, ◌∙◌, arith, add-zero}
+use Rattle.std.proofs.Common.{◌≡◌, ℕ, suc, ◌+◌, ◌≤◌, Bool, true, false, cond, List, [], ◌∷◌, ◌++◌, map, length, take, drop, get_or, All, refl, ap, ap₂, sym, ◌∙◌, arith, add-zero}
 use Rattle.std.specs.List.{concat}
 use Rattle.std.proofs.lemmas.List.{length-map}
 use Rattle.std.proofs.lemmas.List.Concat.{concat_is}
@@ -41,7 +41,8 @@ module _ (N : ℕ) (m : Mode) (cipher : Cipher) (two : 2 ≤ N) (is : Enciphers 
       (is.is_block key (counter m.block m.iv (i + j)) size (counter_is_block m (i + j)))
 
   -- blocks that read as the ciphertext are the ciphertext
-  ends_in_ciphertext : (key : List Bool) (i : ℕ) (part : List ℕ) (outputs : List (List BitShares)) (out : List (List ℕ)) → length key ≡ m.key → AreBytes part → StandFor m outputs out →
+  ends_in_ciphertext : (key : List Bool) (i : ℕ) (part : List ℕ) (outputs : List (List BitShares)) (out : List (List ℕ)) →
+      length key ≡ m.key → AreBytes part → StandFor m outputs out →
       map (map (unmasked bits)) outputs ≡ map m.reading (each (ciphertext_block m.block m.iv (cipher key) i part) (block_count m.block (length part))) →
       take (length part) (concat out) ≡ ciphertext_from m.block m.iv (cipher key) i part
   ends_in_ciphertext key i part outputs out size are stand same =

@@ -1,5 +1,5 @@
 -- Keystreams in parts, and what is made with them.
-use Rattle.std.proofs.Common.{◌≡◌, ◌^◌, Bool, ℕ, ◌+◌, ◌-◌, ◌*◌, ◌<◌, ◌≤◌, List, ◌++◌, length, take, ap, sym, ◌∙◌, arith, length-append, add_assoc}
+use Rattle.std.proofs.Common.{◌≡◌, ℕ, ◌+◌, ◌-◌, ◌*◌, ◌^◌, ◌<◌, ◌≤◌, Bool, List, ◌++◌, length, take, ap, sym, ◌∙◌, arith, length-append, add_assoc}
 use Rattle.std.proofs.lemmas.List.{length-take}
 use Rattle.std.proofs.lemmas.Nat.{mod_below, pow_pos}
 use Rattle.mask_circuit.specs.Wires.{joined}

@@ -1,7 +1,7 @@
--- Lists that are made by number, in two parts.
-use Rattle.std.proofs.Common.{◌≡◌, ℕ, zero, suc, ◌+◌, List, [], ◌∷◌, ◌++◌, refl, ◌<◌, All, arith, subst, ap, sym, ◌∙◌, append_assoc, append-nil, add-zero, add-suc}
-use Rattle.mask_shares.proofs.Lists.{length-each, get_or-each}
+-- Lists that are made by number: in two parts, from the front, and what holds of each element.
+use Rattle.std.proofs.Common.{◌≡◌, ℕ, zero, suc, ◌+◌, ◌<◌, List, [], ◌∷◌, ◌++◌, All, refl, ap, sym, subst, ◌∙◌, arith, append_assoc, append-nil, add-zero, add-suc}
 use Rattle.mask_circuit.specs.Wires.{each, joined}
+use Rattle.mask_shares.proofs.Lists.{length-each, get_or-each}
 
 pub each-add : {A : Type 0} (f : ℕ → A) (m n : ℕ) → each f (m + n) ≡ each f m ++ each (λ k. f (m + k)) n
 each-add f m zero = ap (each f) (add-zero m) ∙ sym (append-nil (each f m))

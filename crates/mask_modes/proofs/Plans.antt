@@ -1,5 +1,5 @@
 -- The steps of counter mode are a strong plan, and depend on the message in its bits alone.
-use Rattle.std.proofs.Common.{◌≡◌, ℕ, suc, ◌+◌, ◌-◌, ◌*◌, ◌<◌, ◌≤◌, Bool, true, false, cond, List, [], ◌∷◌, ◌++◌, length, map, get_or, All, ◌⊎◌, inl, inr, refl, ap, ap₂, sym, subst, ◌∙◌, arith, length-append}
+use Rattle.std.proofs.Common.{◌≡◌, ℕ, suc, ◌+◌, ◌-◌, ◌*◌, ◌<◌, ◌≤◌, Bool, true, false, cond, List, [], ◌∷◌, ◌++◌, map, length, get_or, All, ◌⊎◌, inl, inr, refl, ap, ap₂, sym, subst, ◌∙◌, arith, length-append}
 use Rattle.std.proofs.lemmas.Bool.{cases_lt}
 use Rattle.std.proofs.lemmas.List.{length-map, map-append, append-nil, get_or_append_left, get_or-append_right}
 use Rattle.std.proofs.lemmas.List.Elements.{All-nil, All-tail, All-append, All-map}
@@ -7,10 +7,10 @@ use Rattle.mask_circuit.specs.Wires.{each}
 use Rattle.mask_shares.proofs.Lists.{length-each, get_or-each}
 use Rattle.mask_trace.specs.Steps.{InputBit, Public, Plain, Key, Step, IsThere, IsNotHeld, IsStrongStep, IsStrongPlan}
 use Rattle.mask_trace.specs.Privacy.{AreAlike, without_message}
+use Rattle.mask_trace.proofs.Showing.{plans_are_private}
 use Rattle.mask_modes.specs.CounterMode.{block_count}
 use Rattle.mask_modes.specs.Steps.{Cipher, Mode, Enciphers, blocks, block_step, refresh_step, steps_from, steps_of, is_due}
 use Rattle.mask_modes.specs.Laws.{StepsAreStrong, RunsArePrivate}
-use Rattle.mask_trace.proofs.Showing.{plans_are_private}
 use Rattle.mask_modes.proofs.Keystreams.{length-counter}
 use Rattle.mask_modes.proofs.Blocks.{blocks_are_long}
 use Rattle.mask_modes.proofs.Pieces.{each_holds}
@@ -135,7 +135,8 @@ module _ (m : Mode) (cipher : Cipher) (is : Enciphers cipher m) where
       (steps_are_alike (suc i) part other (All-tail (λ b. length b ≡ m.block) block part all) (All-tail (λ b. length b ≡ m.block) block' other all') (omega arith)))
     where
       go : (due : Bool) → AreAlike (block_step m i block ∷ steps_from m (suc i) part) (block_step m i block' ∷ steps_from m (suc i) other) →
-          AreAlike (cond due (refresh_step m ∷ []) [] ++ block_step m i block ∷ steps_from m (suc i) part) (cond due (refresh_step m ∷ []) [] ++ block_step m i block' ∷ steps_from m (suc i) other)
+          AreAlike (cond due (refresh_step m ∷ []) [] ++ block_step m i block ∷ steps_from m (suc i) part)
+          (cond due (refresh_step m ∷ []) [] ++ block_step m i block' ∷ steps_from m (suc i) other)
       go true rest = ap (λ (l : List Step). with_inputs (refresh_step m) (map without_message (each Key m.key)) ∷ l) rest
       go false rest = rest
 

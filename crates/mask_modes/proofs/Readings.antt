@@ -1,20 +1,20 @@
--- The low-first and the high-first reading are readings.
-use Rattle.std.proofs.Common.{zero, suc, ◌/◌, nat_eq, add-zero, add-suc, append_assoc, inl, inr, ◌≡◌, ℕ, ◌-◌, ◌*◌, ◌^◌, ◌<◌, List, [], ◌∷◌, length, take, drop, reverse, refl, ap, ap₂, sym, subst, ◌∙◌, arith, ◌+◌, ◌%◌, get_or, ◌++◌, Bool}
+-- The low-first and the high-first reading are readings, and counters are numbers.
+use Rattle.std.proofs.Common.{◌≡◌, ℕ, zero, suc, ◌+◌, ◌-◌, ◌*◌, ◌/◌, ◌%◌, ◌^◌, ◌<◌, Bool, nat_eq, List, [], ◌∷◌, ◌++◌, length, take, drop, reverse, get_or, inl, inr, refl, ap, ap₂, sym, subst, ◌∙◌, arith, add-zero, add-suc, append_assoc}
 use Rattle.std.proofs.Math.Nat.{mod-eq_of_lt}
 use Rattle.std.proofs.lemmas.List.{append-nil, take_at, drop_at, length-reverse, reverse-append, reverse-reverse, get_or-reverse, get_or_past}
 use Rattle.std.proofs.lemmas.Bool.{cases_lt}
 use Rattle.std.proofs.lemmas.Nat.{shr-shr}
-use Rattle.mask_gadget.proofs.Made.{each-same}
-use Rattle.mask_modes.proofs.Pieces.{each-first}
-use Rattle.mask_modes.proofs.Keystreams.{counter_bytes}
-use Rattle.mask_circuit.specs.Wires.{each}
 use Rattle.std.proofs.lemmas.List.Elements.{All-tail}
 use Rattle.mask_bits.specs.Reading.{high, bit, lowest, low, number}
 use Rattle.mask_bits.proofs.Bytes.{length-low, low-push, number-high}
 use Rattle.mask_bits.proofs.Numbers.{length-lowest, number-lowest, lowest-of}
+use Rattle.mask_circuit.specs.Wires.{each}
+use Rattle.mask_gadget.proofs.Made.{each-same}
 use Rattle.mask_modes.specs.CounterMode.{counter, bytes_of}
 use Rattle.mask_modes.specs.Readings.{AreBytes}
 use Rattle.mask_modes.specs.Laws.{BytesAreRead}
+use Rattle.mask_modes.proofs.Pieces.{each-first}
+use Rattle.mask_modes.proofs.Keystreams.{counter_bytes}
 
 -- a byte is known by its bits
 byte_is : (x y : ℕ) → x < 2 ^ 8 → y < 2 ^ 8 → lowest 8 x ≡ lowest 8 y → x ≡ y

@@ -27,7 +27,10 @@ block_at-front b n i front rest whole lt =
 block_at-rest : (b n i : ℕ) (front rest : List ℕ) → length front ≡ n * b → block_at b (front ++ rest) (n + i) ≡ block_at b rest i
 block_at-rest b n i front rest whole =
     let e : (n + i) * b ≡ n * b + i * b = omega arith in
-    ap (λ l. take b (l ++ replicate b 0)) (ap (λ (k : ℕ). drop k (front ++ rest)) e ∙ sym (drop-drop (i * b) (n * b) (front ++ rest)) ∙ ap (drop (i * b)) (drop_at front rest (n * b) whole))
+    ap (λ l. take b (l ++ replicate b 0))
+    (ap (λ (k : ℕ). drop k (front ++ rest)) e
+    ∙ sym (drop-drop (i * b) (n * b) (front ++ rest))
+    ∙ ap (drop (i * b)) (drop_at front rest (n * b) whole))
 
 blocks-append : (b n : ℕ) (front rest : List ℕ) → 0 < b → length front ≡ n * b → blocks b (front ++ rest) ≡ blocks b front ++ blocks b rest
 blocks-append b n front rest some whole =

@@ -26,7 +26,8 @@ pub record MessagesSplit : Type 0 where
 -- The ciphertext is as long as the message, and that of a beginning of the message is a beginning of it. Encrypting it
 -- again gives the message. A mode's cipher makes blocks of counters, as this needs.
 pub record CiphertextFits : Type 0 where
-  pub as_long : (b iv : ℕ) (cipher : List ℕ → List ℕ) (i : ℕ) (part : List ℕ) → 0 < b → MakesBlocks b iv cipher → length (ciphertext_from b iv cipher i part) ≡ length part
+  pub as_long : (b iv : ℕ) (cipher : List ℕ → List ℕ) (i : ℕ) (part : List ℕ) → 0 < b → MakesBlocks b iv cipher →
+      length (ciphertext_from b iv cipher i part) ≡ length part
   pub front : (b iv : ℕ) (cipher : List ℕ → List ℕ) (i n : ℕ) (part : List ℕ) → 0 < b → MakesBlocks b iv cipher →
       ciphertext_from b iv cipher i (take n part) ≡ take n (ciphertext_from b iv cipher i part)
   pub decrypts : (b iv : ℕ) (cipher : List ℕ → List ℕ) (i : ℕ) (part : List ℕ) → 0 < b → MakesBlocks b iv cipher →
