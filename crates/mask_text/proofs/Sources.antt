@@ -10,12 +10,12 @@ use Rattle.mask_text.specs.Answers.{Answers, IsAnswerTo, IsUnlessFailed, TakesAl
 use Rattle.mask_text.proofs.Complete.{complete}
 
 -- a source that tells its bytes gave all of them
-gave_all : (bytes : List ℕ) (now : Option (List ℕ)) (taken : List ℕ) → Consumes (Some bytes) now taken → IsAtEnd now → taken ≡ bytes
+pub gave_all : (bytes : List ℕ) (now : Option (List ℕ)) (taken : List ℕ) → Consumes (Some bytes) now taken → IsAtEnd now → taken ≡ bytes
 gave_all bytes None taken consumed end = absurd consumed
 gave_all bytes (Some rest) taken consumed end = sym (consumed ∙ ap (λ xs. taken ++ xs) end ∙ append-nil taken)
 
 -- it gave no more than it had
-gave_some : (bytes : List ℕ) (now : Option (List ℕ)) (taken : List ℕ) → Consumes (Some bytes) now taken → length taken ≤ length bytes
+pub gave_some : (bytes : List ℕ) (now : Option (List ℕ)) (taken : List ℕ) → Consumes (Some bytes) now taken → length taken ≤ length bytes
 gave_some bytes None taken consumed = absurd consumed
 gave_some bytes (Some rest) taken consumed = let e = ap length consumed in omega (arith, length-append taken rest)
 

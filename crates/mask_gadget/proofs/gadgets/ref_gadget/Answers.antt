@@ -23,7 +23,7 @@ refresh-requires g c =
 
 pub returns-clause-words : goal.returns-clause-words
 returns-clause-words g c =
-    c.from_parts.ensures.value ∙ sym (plain_words c.refresh.result c.refresh.result refl) ∙ c.refresh.ensures.shares
+    c.from_parts.ensures.value ∙ sym (plain_words c.refresh.new.out c.refresh.new.out refl) ∙ c.refresh.ensures.shares
     ∙ ap (λ (x : List ℕ). gate_out words g.row.N (Ref 0) (all_listed words (x ∷ [])) (coins_of g.row.N c.args.coins.now))
     (plain_words c.parts.result c.args.x c.parts.ensures.value)
 
