@@ -6,6 +6,7 @@ use Rattle.std.specs.Int.Bits.{xor_zero_l, xor_zero_r}
 use Rattle.std.proofs.lemmas.List.{length-take-le, length-drop, length-take, take-append-drop, drop-drop}
 use Rattle.mask_circuit.specs.Value.{xor}
 use Rattle.mask_bits.specs.Reading.{number}
+use Rattle.mask_present.specs.NamedPresent.{with_stretch}
 use Rattle.mask_bits.proofs.Numbers.{number-append, number-lt}
 
 -- the number of a list is that of its first n bits and that of the others
@@ -61,16 +62,13 @@ number-rotated a b bits long =
     let rest : length (drop a bits) ≡ b = length-drop a bits ∙ omega arith in
     number-append (drop a bits) (take a bits) ∙ rw (rest, number-drop a bits within, number-take a bits within) (omega arith)
 
--- a list with ys in place of the elements from place a on
-abbrev pub with_stretch : {A : Type 0} → ℕ → List A → List A → List A
-with_stretch a ys xs = take a xs ++ (ys ++ drop (a + length ys) xs)
-
 regroup : (A B high mid low : ℕ) → low + A * (mid + B * high) ≡ high * (A * B) + mid * A + low
 regroup A B high mid low = omega arith
 
 -- bits from place a on are replaced
 pub number-stretch : (a b : ℕ) (ys bits : List Bool) → length ys ≡ b → a + b ≤ length bits
     → number (with_stretch a ys bits) ≡ number bits / 2 ^ (a + b) * 2 ^ (a + b) + number ys * 2 ^ a + number bits % 2 ^ a
+unfolding with_stretch
 number-stretch a b ys bits long within =
     let low : a ≤ length bits = omega arith in
     let count : length (take a bits) ≡ a = length-take-le a bits low in
@@ -99,6 +97,7 @@ xor-high_part a n high low i is small =
 pub number-xor_stretch : (a b i : ℕ) (ys bits : List Bool) → length ys ≡ b → a + b ≤ length bits → i < 2 ^ b
     → number ys ≡ bit_xor (number (take b (drop a bits))) i
     → number (with_stretch a ys bits) ≡ bit_xor (number bits) (i * 2 ^ a)
+unfolding with_stretch
 number-xor_stretch a b i ys bits long within small shown =
     let low : a ≤ length bits = omega arith in
     let rest : b ≤ length (drop a bits) = rw (length-drop a bits) (omega arith) in

@@ -5,11 +5,8 @@ use Rattle.std.specs.List.{range_with_len}
 use Rattle.std.proofs.lemmas.List.Sums.{sum_by-cons}
 use Rattle.mask_bits.specs.Reading.{number}
 use Rattle.mask_bits.proofs.Numbers.{bit-number, worth}
+use Rattle.mask_present.specs.NamedPresent.{source}
 use Rattle.mask_present.specs.Present.{place, permuted}
-
--- which bit of a block comes to place i
-abbrev pub source : ℕ → ℕ
-source i = if i == 63 then 63 else 4 * i % 63
 
 -- f a + f (a + 1) + .. with n terms
 abbrev total : (ℕ → ℕ) → ℕ → ℕ → ℕ

@@ -1,1 +1,2 @@
+pub mod NamedPresent
 pub mod Present

@@ -1,15 +1,12 @@
 -- The block cipher PRESENT on whole numbers (ISO/IEC 29192-2; Bogdanov and others, CHES 2007).
 --
 -- A block is a number of 64 bits and a key is one of 80 or 128 bits. Bit j of a number weighs 2 ^ j.
-use Rattle.std.specs.Prelude.{◌≡◌, ℕ, zero, suc, ◌+◌, ◌-◌, ◌*◌, ◌/◌, ◌%◌, ◌^◌, ◌==◌, List, [], ◌∷◌, slice_index, sum_by, fold, bit_xor, if◌then◌else◌}
+use Rattle.std.specs.Prelude.{ℕ, zero, suc, ◌+◌, ◌-◌, ◌*◌, ◌/◌, ◌%◌, ◌^◌, ◌==◌, List, [], ◌∷◌, sum_by, fold, bit_xor, if◌then◌else◌}
 use Rattle.std.specs.List.{range_with_len}
 use Rattle.std.specs.Int.{bit_at}
 use Rattle.mask_tasks.specs.declared.sizes.KeySize.{KeySize}
 use Rattle.mask_tasks.specs.declared.sizes.KeySize.TheVariants.{K80, K128}
-
--- the S-box
-abbrev pub sbox : ℕ → ℕ
-sbox x = slice_index (0xC ∷ 0x5 ∷ 0x6 ∷ 0xB ∷ 0x9 ∷ 0x0 ∷ 0xA ∷ 0xD ∷ 0x3 ∷ 0xE ∷ 0xF ∷ 0x8 ∷ 0x4 ∷ 0x7 ∷ 0x1 ∷ 0x2 ∷ []) x
+use Rattle.mask_parts.specs.PresentSbox.{sbox}
 
 -- the lowest n nibbles of a number, each replaced by the S-box
 unfoldable pub substituted : ℕ → ℕ → ℕ
