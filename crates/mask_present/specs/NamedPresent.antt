@@ -133,12 +133,16 @@ start r = record {
   block = range_with_len r.width 64;
 }
 
--- the circuit with inputs for a register of that shape
-unfoldable pub named_of : Register → Netlist
-named_of r =
+-- the counter block encrypted under the key, xored with the message block
+unfoldable pub encrypted_message : Register → Netlist
+encrypted_message r =
     let s = rounds r (start r) in
-    with_fence (xored s.draft s.block (range_with_len (r.width + 64) 64)) (range_with_len (value_count s.draft) 64)
+    xored s.draft s.block (range_with_len (r.width + 64) 64)
 
--- present-80 and present-128: the counter block encrypted under the key, xored with the message block, and a fence
+-- and a fence at these 64 values, which are the last
+unfoldable pub named_of : Register → Netlist
+named_of r = with_fence (encrypted_message r) (range_with_len (value_count (rounds r (start r)).draft) 64)
+
+-- present-80 and present-128
 unfoldable pub named_present : KeySize → Netlist
 named_present size = named_of (register size)
