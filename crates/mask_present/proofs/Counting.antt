@@ -104,18 +104,18 @@ Counts-not_gates (b ∷ bs) [] same = absurd (omega arith)
 Counts-not_gates (true ∷ bs) (u ∷ us) same = Counts-linear (Not u) _ _ _ _ refl refl (Counts-not_gates bs us (omega arith))
 Counts-not_gates (false ∷ bs) (u ∷ us) same = Counts-not_gates bs us (omega arith)
 
-Adds-key_added : (r : Register) (s : Stage) → IsShape r → Fits r s → Adds s.draft (key_added r s).draft 64 0 0
+pub Adds-key_added : (r : Register) (s : Stage) → IsShape r → Fits r s → Adds s.draft (key_added r s).draft 64 0 0
 unfolding key_added xored
 Adds-key_added r s shape fits =
     let long = fits.key in let block = fits.block in let wide = shape.wide in
     let same : length s.block ≡ length (drop (r.width - 64) s.key) = rw (length-drop (r.width - 64) s.key) (omega arith) in
     Adds-with_gates s.draft _ 64 0 0 (rw block at (Counts-xor_gates s.block (drop (r.width - 64) s.key) same))
 
-Adds-block_substituted : (s : Stage) → Adds s.draft (block_substituted s).draft 416 80 80
+pub Adds-block_substituted : (s : Stage) → Adds s.draft (block_substituted s).draft 416 80 80
 unfolding block_substituted
 Adds-block_substituted s = Adds-with_gates s.draft _ 416 80 80 (Counts-sboxes 16 (value_count s.draft) s.block)
 
-Adds-key_replaced : (s : Stage) (at : ℕ) → Adds s.draft (key_replaced s at).draft 26 5 5
+pub Adds-key_replaced : (s : Stage) (at : ℕ) → Adds s.draft (key_replaced s at).draft 26 5 5
 unfolding key_replaced with_sbox with_part
 Adds-key_replaced s at = Adds-with_gates s.draft _ 26 5 5 (Counts-sbox (value_count s.draft) (take 4 (drop at s.key)))
 

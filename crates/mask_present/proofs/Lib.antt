@@ -1,7 +1,10 @@
 pub mod Counting
 pub mod Fitting
+pub mod Holding
+pub mod Knowing
 pub mod Lengthening
 pub mod NumberLaws
 pub mod Permuting
 mod PresentVectors
 pub mod Showing
+pub mod Tidying

@@ -1,5 +1,5 @@
 -- The layer of bits on numbers and on lists of bits.
-use Rattle.std.proofs.Common.{◌≡◌, ℕ, zero, suc, ◌+◌, ◌*◌, ◌%◌, ◌^◌, ◌<◌, Bool, true, false, ◌==◌, List, [], ◌∷◌, length, map, get_or, refl, sym, ap, ◌∙◌, arith, if◌then◌else◌, sum_by}
+use Rattle.std.proofs.Common.{◌≡◌, ℕ, zero, suc, ◌+◌, ◌*◌, ◌%◌, ◌^◌, ◌<◌, Bool, true, false, ◌==◌, List, [], ◌∷◌, length, map, get_or, refl, sym, ap, ◌∙◌, arith, lit<, if◌then◌else◌, sum_by}
 use Rattle.std.specs.Int.{bit_at}
 use Rattle.std.specs.List.{range_with_len}
 use Rattle.std.proofs.lemmas.List.Sums.{sum_by-cons}
@@ -7,6 +7,13 @@ use Rattle.mask_bits.specs.Reading.{number}
 use Rattle.mask_bits.proofs.Numbers.{bit-number, worth}
 use Rattle.mask_present.specs.NamedPresent.{source}
 use Rattle.mask_present.specs.Present.{place, permuted}
+
+either-lt : (b : Bool) (m : ℕ) → m < 63 → (if b then 63 else m) < 64
+either-lt true m h = lit< tt
+either-lt false m h = omega arith
+
+pub source-lt : (i : ℕ) → source i < 64
+source-lt i = either-lt (i == 63) (4 * i % 63) (omega arith)
 
 -- f a + f (a + 1) + .. with n terms
 abbrev total : (ℕ → ℕ) → ℕ → ℕ → ℕ

@@ -19,7 +19,7 @@ use Rattle.mask_present.specs.NamedPresent.{Stage, xor_gates, xored, sboxes, sbo
 use Rattle.mask_present.proofs.Fitting.{IsShape, AllWithin, Fits, length-sboxes_results, length-sbox_results, length-not_results, length-counter_values, Fits-key_added, Fits-block_substituted, Fits-block_moved, Fits-key_rotated, Fits-key_replaced, Fits-key_counted}
 use Rattle.mask_present.proofs.Lengthening.{Lengthens, Lengthens-block_substituted, Lengthens-nibbles, Lengthens-key_counted, Lengthens-key_updated, Lengthens-block_round, Lengthens-rounds}
 use Rattle.mask_present.proofs.NumberLaws.{xor_bits, number-xor_bits, number-take, number-drop, number-rotated, number-stretch, number-between, number-xor_stretch}
-use Rattle.mask_present.proofs.Permuting.{permuted-number}
+use Rattle.mask_present.proofs.Permuting.{source-lt, permuted-number}
 
 -- the bits vs solve all gates of the draft
 abbrev pub Solved : List Bool → Netlist → Type 0
@@ -70,7 +70,7 @@ shown-take vs n us within = rw (← take-map) (number-take n (map (value_at vs) 
 shown-drop : (vs : List Bool) (n : ℕ) (us : List ℕ) → n ≤ length us → shown vs (drop n us) ≡ shown vs us / 2 ^ n
 shown-drop vs n us within = rw (← drop-map) (number-drop n (map (value_at vs) us) (rw (length-map us (value_at vs)) within))
 
-length-sbox_gates : (n : ℕ) (us : List ℕ) → length (part_gates n us sbox_steps) ≡ 26
+pub length-sbox_gates : (n : ℕ) (us : List ℕ) → length (part_gates n us sbox_steps) ≡ 26
 unfolding sbox_steps
 length-sbox_gates n us = refl
 
@@ -89,13 +89,6 @@ shown-sboxes vs (suc m) n us long solved =
         shown-sboxes vs m (n + 26) (drop 4 us) (length-drop 4 us ∙ omega arith) later in
     shown-append vs (sbox_results n) (sboxes_results m (n + 26))
         ∙ rw (length-sbox_results n, one, others, shown-take vs 4 us four, shown-drop vs 4 us four) refl
-
-either-lt : (b : Bool) (m : ℕ) → m < 63 → (if b then 63 else m) < 64
-either-lt true m h = lit< tt
-either-lt false m h = omega arith
-
-pub source-lt : (i : ℕ) → source i < 64
-source-lt i = either-lt (i == 63) (4 * i % 63) (omega arith)
 
 map-same : {A B : Type 0} (f g : A → B) (xs : List A) → ((x : A) → f x ≡ g x) → map f xs ≡ map g xs
 map-same f g [] same = refl
