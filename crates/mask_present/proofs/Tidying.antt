@@ -120,7 +120,7 @@ sbox_usable : (value_at (part_usable sbox_steps) 16 ≡ true) × (value_at (part
 unfolding sbox_steps
 sbox_usable = (refl, refl, refl, refl)
 
-count-with_sbox : (c : Netlist) (us : List ℕ) → value_count (with_sbox c us) ≡ value_count c + 26
+pub count-with_sbox : (c : Netlist) (us : List ℕ) → value_count (with_sbox c us) ≡ value_count c + 26
 unfolding with_sbox with_part
 count-with_sbox c us = value_count-with_gates c (part_gates (value_count c) us sbox_steps) ∙ ap (λ k. value_count c + k) (length-sbox_gates (value_count c) us)
 

@@ -21,6 +21,9 @@ pub record Stage : Type 0 where
   pub key : List ℕ
   pub block : List ℕ
 
+unfoldable pub stage : Netlist → List ℕ → List ℕ → Stage
+stage c us vs = record { draft = c; key = us; block = vs }
+
 -- an XOR of each two values in the same place
 unfoldable pub xor_gates : List ℕ → List ℕ → List Gate
 xor_gates [] vs = []

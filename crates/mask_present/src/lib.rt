@@ -1,4 +1,12 @@
-//! The block cipher PRESENT (ISO/IEC 29192-2) as a circuit.
+//! The block cipher PRESENT (ISO/IEC 29192-2) as a circuit, for keys of 80 and of 128 bits.
+//!
+//! `specs/Present.antt` is the cipher on numbers, and `specs/NamedPresent.antt` the circuits gate by gate.
 #![tactic(auto)]
 
+mod nibbles;
+mod round;
+//mod rounds;
+mod schedule;
+
 pub use mask_tasks::KeySize;
+//pub use rounds::present_rounds;
