@@ -8,4 +8,6 @@ pub mod NumberLaws
 pub mod Permuting
 mod PresentVectors
 pub mod Showing
+pub mod Stretches
 pub mod Tidying
+pub mod Updates

@@ -5,8 +5,8 @@
 
 mod nibbles;
 mod round;
-//mod rounds;
+mod rounds;
 mod schedule;
 
 pub use mask_tasks::KeySize;
-//pub use rounds::present_rounds;
+pub use rounds::present_rounds;
