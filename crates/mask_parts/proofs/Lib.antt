@@ -1,0 +1,13 @@
+pub mod Concluding
+pub mod Fencing
+pub mod Growing
+pub mod Keeping
+pub mod Layering
+pub mod Laying
+pub mod Multiplying
+pub mod PartExamples
+pub mod PartGates
+pub mod PartLaying
+pub mod PartTidiness
+pub mod Solving
+pub mod Substituting

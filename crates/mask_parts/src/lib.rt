@@ -1,0 +1,18 @@
+//! Parts that circuits are laid from: products, tables of steps, the S-box of PRESENT, and the fence at the outputs.
+//!
+//! Each part makes exactly the gates of its definition, in the order given there. `specs/` also holds the word that says
+//! so of any call that lays gates, up to a whole circuit, and the record that is the contract of a cipher's circuit.
+#![tactic(auto)]
+
+mod fences;
+mod products;
+mod substitution;
+mod tables;
+
+pub use fences::fence_outputs;
+pub use products::product;
+pub use substitution::sbox4_present;
+pub use tables::{Place, Step, lay};
+
+#[cfg(test)]
+mod tests;
