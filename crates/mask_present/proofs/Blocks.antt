@@ -7,8 +7,7 @@ use Rattle.mask_circuit.specs.declared.gates.Gate.{Gate}
 use Rattle.mask_circuit.specs.declared.gates.Gate.TheVariants.{Xor}
 use Rattle.mask_circuit.specs.Netlist.{Netlist, value_count}
 use Rattle.mask_parts.specs.Drafts.{with_gates, Grows, IsWithinLimits}
-use Rattle.mask_parts.specs.PresentSbox.{sbox_steps, sbox_results, with_sbox}
-use Rattle.mask_parts.specs.Tables.{part_gates, with_part}
+use Rattle.mask_parts.specs.PresentSbox.{sbox_gates, sbox_results, with_sbox}
 use Rattle.mask_parts.proofs.Growing.{value_count-with_gates, value_count-Grows, with_gates-nil, with_gates-with_gates, Grows-refl, Grows-trans, Grows-with_gates}
 use Rattle.mask_present.proofs.Fitting.{length-with_stretch, length-sbox_results}
 use Rattle.mask_present.proofs.Tidying.{count-with_sbox}
@@ -114,12 +113,12 @@ module _ (before c : Netlist) (us results : List ℕ) (g : ℕ) (long_us : lengt
 
   -- the next S-box is part of the whole
   left-sbox : with_gates (with_sbox c nibble_of) rest ≡ with_gates before (sboxes 16 (value_count before) us)
-  unfolding sboxes with_sbox with_part
+  unfolding sboxes with_sbox
   left-sbox =
       let more : 16 - g ≡ suc (16 - (g + 1)) = omega arith in
       let next : drop 4 (drop (4 * g) us) ≡ drop (4 * (g + 1)) us = drop-drop 4 (4 * g) us ∙ ap (λ n. drop n us) (omega arith) in
-      with_gates-with_gates c (part_gates (value_count c) nibble_of sbox_steps) rest
-          ∙ ap (λ (zs : List ℕ). with_gates c (part_gates (value_count c) nibble_of sbox_steps ++ sboxes (16 - (g + 1)) (value_count c + 26) zs)) (sym next)
+      with_gates-with_gates c (sbox_gates (value_count c) nibble_of) rest
+          ∙ ap (λ (zs : List ℕ). with_gates c (sbox_gates (value_count c) nibble_of ++ sboxes (16 - (g + 1)) (value_count c + 26) zs)) (sym next)
           ∙ ap (λ m. with_gates c (sboxes m (value_count c) (drop (4 * g) us))) (sym more) ∙ has.left
 
   pub rest-sbox : Grows (with_sbox c nibble_of) (with_gates before (sboxes 16 (value_count before) us))
@@ -132,7 +131,7 @@ module _ (before c : Netlist) (us results : List ℕ) (g : ℕ) (long_us : lengt
       let four : length (sbox_results (value_count c)) ≡ 4 = length-sbox_results (value_count c) in
       let places : 4 * (g + 1) ≡ 4 * g + length (sbox_results (value_count c)) = omega arith in
       rw made (record {
-        begun = Grows-trans before c (with_sbox c nibble_of) has.begun (unfold with_sbox with_part in Grows-with_gates c _);
+        begun = Grows-trans before c (with_sbox c nibble_of) has.begun (unfold with_sbox in Grows-with_gates c _);
         count = count ∙ (let counted = has.count in omega arith);
         left = rw count left-sbox;
         within = within;

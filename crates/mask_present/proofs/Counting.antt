@@ -14,8 +14,8 @@ use Rattle.mask_tasks.specs.declared.sizes.KeySize.TheVariants.{K80, K128}
 use Rattle.mask_parts.specs.CipherCircuits.{Size, size_of}
 use Rattle.mask_parts.specs.Drafts.{with_gates, with_outputs}
 use Rattle.mask_parts.specs.Fences.{with_fence}
-use Rattle.mask_parts.specs.PresentSbox.{sbox_steps, with_sbox}
-use Rattle.mask_parts.specs.Tables.{part_gates, with_part}
+use Rattle.mask_parts.specs.PresentSbox.{sbox_gates, with_sbox}
+use Rattle.mask_parts.proofs.Substituting.{length-sbox_gates, products-sbox_gates, refreshes-sbox_gates}
 use Rattle.mask_present.specs.Present.{Register, register}
 use Rattle.mask_present.specs.NamedPresent.{Stage, xor_gates, xored, sboxes, not_gates, counter_values, key_added, block_substituted, block_moved, key_rotated, key_replaced, key_counted, key_updated, block_round, stage_after, rounds, start, encrypted_message, named_of, named_present}
 use Rattle.mask_present.proofs.Fitting.{IsShape, IsShape-register, AllWithin, Fits, length-counter_values, Fits-key_added, Fits-block_substituted, Fits-block_round, Fits-key_rotated, Fits-key_replaced, Fits-nibbles, Fits-stage_after, Fits-rounds, Fits-start}
@@ -80,15 +80,14 @@ Counts-xor_gates [] vs same = Counts-none
 Counts-xor_gates (u ∷ us) [] same = absurd (omega arith)
 Counts-xor_gates (u ∷ us) (v ∷ vs) same = Counts-linear (Xor u v) _ _ _ _ refl refl (Counts-xor_gates us vs (omega arith))
 
-Counts-sbox : (n : ℕ) (us : List ℕ) → Counts (part_gates n us sbox_steps) 26 5 5
-unfolding sbox_steps
-Counts-sbox n us = record { gates = refl; products = refl; refreshes = refl }
+Counts-sbox : (n : ℕ) (us : List ℕ) → Counts (sbox_gates n us) 26 5 5
+Counts-sbox n us = record { gates = length-sbox_gates n us; products = products-sbox_gates n us; refreshes = refreshes-sbox_gates n us }
 
 Counts-sboxes : (m n : ℕ) (us : List ℕ) → Counts (sboxes m n us) (26 * m) (5 * m) (5 * m)
 unfolding sboxes
 Counts-sboxes zero n us = Counts-none
 Counts-sboxes (suc m) n us =
-    let both = Counts-append (part_gates n (take 4 us) sbox_steps) (sboxes m (n + 26) (drop 4 us)) _ _ _ _ _ _ (Counts-sbox n (take 4 us)) (Counts-sboxes m (n + 26) (drop 4 us)) in
+    let both = Counts-append (sbox_gates n (take 4 us)) (sboxes m (n + 26) (drop 4 us)) _ _ _ _ _ _ (Counts-sbox n (take 4 us)) (Counts-sboxes m (n + 26) (drop 4 us)) in
     record { gates = both.gates ∙ omega arith; products = both.products ∙ omega arith; refreshes = both.refreshes ∙ omega arith }
 
 -- how many flags are set
@@ -116,7 +115,7 @@ unfolding block_substituted
 Adds-block_substituted s = Adds-with_gates s.draft _ 416 80 80 (Counts-sboxes 16 (value_count s.draft) s.block)
 
 pub Adds-key_replaced : (s : Stage) (at : ℕ) → Adds s.draft (key_replaced s at).draft 26 5 5
-unfolding key_replaced with_sbox with_part
+unfolding key_replaced with_sbox
 Adds-key_replaced s at = Adds-with_gates s.draft _ 26 5 5 (Counts-sbox (value_count s.draft) (take 4 (drop at s.key)))
 
 -- the same numbers in another form

@@ -3,7 +3,6 @@ use Rattle.std.proofs.Common.{◌≡◌, ℕ, zero, suc, ◌+◌, ◌≤◌, Lis
 use Rattle.mask_circuit.specs.Netlist.{Netlist}
 use Rattle.mask_parts.specs.Drafts.{Grows}
 use Rattle.mask_parts.specs.PresentSbox.{with_sbox}
-use Rattle.mask_parts.specs.Tables.{with_part}
 use Rattle.mask_parts.proofs.Growing.{Grows-refl, Grows-trans, Grows-with_gates}
 use Rattle.mask_present.specs.Present.{Register}
 use Rattle.mask_present.specs.NamedPresent.{Stage, xored, key_added, block_substituted, block_moved, key_rotated, key_replaced, key_counted, key_updated, block_round, stage_after, rounds}
@@ -25,7 +24,7 @@ unfolding block_round block_moved
 Lengthens-block_round r s = Grows-trans _ _ _ (Lengthens-key_added r s) (Lengthens-block_substituted (key_added r s))
 
 pub Lengthens-key_replaced : (s : Stage) (at : ℕ) → Lengthens s (key_replaced s at)
-unfolding key_replaced with_sbox with_part
+unfolding key_replaced with_sbox
 Lengthens-key_replaced s at = Grows-with_gates s.draft _
 
 pub Lengthens-nibbles : (ats : List ℕ) (s : Stage) → Lengthens s (fold key_replaced s ats)

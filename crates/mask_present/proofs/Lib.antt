@@ -1,5 +1,6 @@
 pub mod Blocks
 pub mod Counting
+pub mod Encrypting
 pub mod Fitting
 pub mod Holding
 pub mod Knowing

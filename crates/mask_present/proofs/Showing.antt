@@ -10,9 +10,9 @@ use Rattle.mask_circuit.specs.declared.gates.Gate.{Gate}
 use Rattle.mask_circuit.specs.Netlist.{Netlist, value_count}
 use Rattle.mask_circuit.specs.Value.{xor, value_at}
 use Rattle.mask_parts.specs.Drafts.{with_gates, with_outputs, Grows}
-use Rattle.mask_parts.specs.PresentSbox.{sbox, sbox_steps, sbox_results, with_sbox}
-use Rattle.mask_parts.specs.Tables.{part_gates, with_part}
+use Rattle.mask_parts.specs.PresentSbox.{sbox, sbox_gates, sbox_results, with_sbox}
 use Rattle.mask_parts.proofs.Growing.{value_count-with_gates}
+use Rattle.mask_parts.proofs.Substituting.{length-sbox_gates, sbox-solved}
 use Rattle.mask_parts.proofs.Solving.{Solves, Solves-left, Solves-right}
 use Rattle.mask_present.specs.Present.{Register, substituted, permuted, round_key, rotated, replaced, updated, register_after, key_of_round, block_after, encrypted}
 use Rattle.mask_present.specs.NamedPresent.{Stage, xor_gates, xored, sboxes, sboxes_results, source, moved, with_stretch, not_gates, not_results, counter_values, key_added, block_substituted, block_moved, key_rotated, key_replaced, key_counted, key_updated, block_round, stage_after, rounds}
@@ -55,10 +55,6 @@ shown-xor_gates vs n k us ws long long' solved =
     ap (λ m. shown vs (range_with_len n m)) (sym long) ∙ ap number bits
         ∙ number-xor_bits (map (value_at vs) us) (map (value_at vs) ws) (length-map us _ ∙ long ∙ sym long' ∙ sym (length-map ws _))
 
--- the S-box
-shown-sbox : (vs : List Bool) (n : ℕ) (us : List ℕ) → length us ≡ 4 → Solves vs n (part_gates n us sbox_steps) → shown vs (sbox_results n) ≡ sbox (shown vs us)
-shown-sbox vs n us long solved = ?sbox
-
 shown-append : (vs : List Bool) (us ws : List ℕ) → shown vs (us ++ ws) ≡ shown vs us + 2 ^ length us * shown vs ws
 shown-append vs us ws =
     ap number (map-append (value_at vs) us ws) ∙ number-append (map (value_at vs) us) (map (value_at vs) ws)
@@ -70,20 +66,16 @@ shown-take vs n us within = rw (← take-map) (number-take n (map (value_at vs) 
 shown-drop : (vs : List Bool) (n : ℕ) (us : List ℕ) → n ≤ length us → shown vs (drop n us) ≡ shown vs us / 2 ^ n
 shown-drop vs n us within = rw (← drop-map) (number-drop n (map (value_at vs) us) (rw (length-map us (value_at vs)) within))
 
-pub length-sbox_gates : (n : ℕ) (us : List ℕ) → length (part_gates n us sbox_steps) ≡ 26
-unfolding sbox_steps
-length-sbox_gates n us = refl
-
 shown-sboxes : (vs : List Bool) (m n : ℕ) (us : List ℕ) → length us ≡ 4 * m → Solves vs n (sboxes m n us)
     → shown vs (sboxes_results m n) ≡ substituted m (shown vs us)
 unfolding sboxes sboxes_results substituted
 shown-sboxes vs zero n us long solved = refl
 shown-sboxes vs (suc m) n us long solved =
-    let first : List Gate = part_gates n (take 4 us) sbox_steps in
+    let first : List Gate = sbox_gates n (take 4 us) in
     let rest : List Gate = sboxes m (n + 26) (drop 4 us) in
     let four : 4 ≤ length us = omega arith in
     let one : shown vs (sbox_results n) ≡ sbox (shown vs (take 4 us)) =
-        shown-sbox vs n (take 4 us) (length-take-le 4 us four) (Solves-left vs n first rest solved) in
+        sbox-solved vs n (take 4 us) (length-take-le 4 us four) (Solves-left vs n first rest solved) in
     let later : Solves vs (n + 26) rest = rw (length-sbox_gates n (take 4 us)) at (Solves-right vs n first rest solved) in
     let others : shown vs (sboxes_results m (n + 26)) ≡ substituted m (shown vs (drop 4 us)) =
         shown-sboxes vs m (n + 26) (drop 4 us) (length-drop 4 us ∙ omega arith) later in
@@ -188,7 +180,7 @@ map-with_stretch f at us xs =
 
 pub Shows-key_replaced : (r : Register) (vs : List Bool) (k b at : ℕ) (s : Stage) → at + 4 ≤ r.width → Solved vs (key_replaced s at).draft → Shows r vs k b s
     → Shows r vs (replaced k at) b (key_replaced s at)
-unfolding key_replaced replaced with_sbox with_part
+unfolding key_replaced replaced with_sbox
 Shows-key_replaced r vs k b at s within solved shows =
     let long = shows.fits.key in
     let n = value_count s.draft in
@@ -199,7 +191,7 @@ Shows-key_replaced r vs k b at s within solved shows =
     let nibble_shown : shown vs nibble ≡ k / 2 ^ at % 16 =
         shown-take vs 4 (drop at s.key) (rw (length-drop at s.key) (omega arith)) ∙ rw (shown-drop vs at s.key (omega arith), shows.key) refl in
     let result : number (map (value_at vs) (sbox_results n)) ≡ sbox (k / 2 ^ at % 16) =
-        shown-sbox vs n nibble nibble_long (Solved-with_gates vs s.draft (part_gates n nibble sbox_steps) solved).1 ∙ rw nibble_shown refl in
+        sbox-solved vs n nibble nibble_long (Solved-with_gates vs s.draft (sbox_gates n nibble) solved).1 ∙ rw nibble_shown refl in
     let results_long : length (map (value_at vs) (sbox_results n)) ≡ 4 = length-map (sbox_results n) (value_at vs) ∙ length-sbox_results n in
     record {
       fits = Fits-key_replaced r s at within shows.fits;

@@ -1,7 +1,9 @@
 -- The rounds keep a draft tidy, and leave free values.
 use Rattle.std.proofs.Common.{◌≡◌, ℕ, zero, suc, ◌+◌, ◌-◌, ◌*◌, ◌<◌, ◌≤◌, ◌⊎◌, inl, inr, Bool, true, false, Some, List, [], ◌∷◌, ◌++◌, length, take, drop, All, refl, sym, ap, ◌∙◌, subst, arith, lit<, fold}
 use Rattle.std.proofs.lemmas.List.{length-take-le, length-drop, append_assoc}
-use Rattle.std.proofs.lemmas.List.Elements.{All-nil, All-cons, All-head, All-tail, All-append, All-take, All-drop, All-weaker}
+use Rattle.std.proofs.lemmas.List.Elements.{All-nil, All-cons, All-head, All-tail, All-append, All-take, All-drop, All-weaker, All-get_or}
+use Rattle.std.specs.List.{range_with_len}
+use Rattle.std.proofs.lemmas.List.FromFn.{length-range_with_len, get_or-range_with_len}
 use Rattle.std.proofs.lemmas.Bool.{cases_lt}
 use Rattle.mask_bits.specs.Reading.{lowest}
 use Rattle.mask_circuit.specs.declared.gates.Gate.{Gate}
@@ -10,19 +12,18 @@ use Rattle.mask_circuit.specs.Netlist.{Netlist, AreGates, value_count, is_produc
 use Rattle.mask_circuit.specs.Value.{value_at}
 use Rattle.mask_circuit.specs.Acceptance.{Uses, IsTidy}
 use Rattle.mask_parts.specs.Drafts.{with_gates, with_outputs, Grows}
-use Rattle.mask_parts.specs.PresentSbox.{sbox_steps, sbox_results, with_sbox}
-use Rattle.mask_parts.specs.Tables.{part_gates, part_usable, is_part, with_part}
+use Rattle.mask_parts.specs.PresentSbox.{sbox_gates, sbox_results, with_sbox}
 use Rattle.mask_parts.specs.Tidiness.{IsFree, KeepsTidy}
 use Rattle.mask_parts.proofs.Growing.{value_count-Grows, value_count-with_gates, with_gates-nil, with_gates-with_gates, Grows-with_gates, AreGates-left}
-use Rattle.mask_parts.proofs.Keeping.{KeepsTidy-gate, KeepsTidy-refl, KeepsTidy-then}
-use Rattle.mask_parts.proofs.PartTidiness.{AreFree, KeepsTidy-part}
+use Rattle.mask_parts.proofs.Keeping.{KeepsTidy-refl, KeepsTidy-then}
 use Rattle.mask_present.specs.Present.{Register}
 use Rattle.mask_present.specs.NamedPresent.{Stage, xor_gates, xored, sboxes, sboxes_results, not_gates, not_results, counter_values, key_added, block_substituted, block_moved, key_rotated, key_replaced, key_counted, key_updated, block_round, stage_after, rounds, start}
 use Rattle.mask_present.proofs.Fitting.{IsShape, AllWithin, Fits, Fits-key_added, Fits-block_substituted, Fits-block_round, Fits-key_rotated, Fits-key_replaced, Fits-stage_after}
 use Rattle.mask_present.proofs.Counting.{Counts-xor_gates}
 use Rattle.mask_present.proofs.Lengthening.{Lengthens-key_added, Lengthens-block_substituted, Lengthens-block_round, Lengthens-key_replaced, Lengthens-nibbles, Lengthens-key_counted, Lengthens-key_updated}
-use Rattle.mask_present.proofs.Showing.{length-sbox_gates}
-use Rattle.mask_present.proofs.Holding.{Holds, All-sbox_results, Holds-key_added, Holds-block_substituted, Holds-block_moved, Holds-key_rotated, Holds-key_replaced, Holds-key_counted}
+use Rattle.mask_parts.proofs.Layering.{TakesFree, TakesFree-xor, TakesFree-not, KeepsTidy-layer}
+use Rattle.mask_parts.proofs.Substituting.{length-sbox_gates, KeepsTidy-sbox}
+use Rattle.mask_present.proofs.Holding.{Holds, All-range, All-sbox_results, Holds-key_added, Holds-block_substituted, Holds-block_moved, Holds-key_rotated, Holds-key_replaced, Holds-key_counted}
 
 -- the gates of the draft take earlier values
 abbrev pub Formed : Netlist → Type 0
@@ -40,113 +41,75 @@ pub record IsReady (c : Netlist) (u : ℕ) : Type 0 where
 pub IsReady-later : (c d : Netlist) (us : List ℕ) → value_count c ≤ value_count d → KeepsTidy c d us → (u : ℕ) → IsReady c u → IsReady d u
 IsReady-later c d us more keeps u ready = record { below = (let low = ready.below in omega arith); free = keeps.still_free u ready.below ready.free }
 
--- LISTS OF GATES
-
--- gates that are no products and take such values
-abbrev pub AreLinear : Netlist → List Gate → Type 0
-AreLinear c [] = Unit {0}
-AreLinear c (g ∷ gs) = (is_product g ≡ false) × ((u : ℕ) → Uses u (Some g) → IsReady c u) × AreLinear c gs
-
-AreLinear-later : (c d : Netlist) (gs : List Gate) → ((u : ℕ) → IsReady c u → IsReady d u) → AreLinear c gs → AreLinear d gs
-AreLinear-later c d [] up linear = tt
-AreLinear-later c d (g ∷ gs) up linear = (linear.0, (λ u uses. up u (linear.1 u uses)), AreLinear-later c d gs up linear.2)
-
--- what gates keep, of which the first makes value n: the new values are ready too
-pub record Keeps (c d : Netlist) (n m : ℕ) : Type 0 where
-  pub tidy : KeepsTidy c d []
-  pub more : value_count c ≤ value_count d
-  pub ready : (u : ℕ) → n ≤ u → u < m → IsReady d u
-
-Keeps-linear : (c : Netlist) (gs : List Gate) → Formed (with_gates c gs) → AreLinear c gs → IsTidy c → Keeps c (with_gates c gs) (value_count c) (value_count c + length gs)
-Keeps-linear c [] formed linear tidy =
-    rw (with_gates-nil c) (record { tidy = KeepsTidy-refl c tidy; more = omega arith; ready = λ u low high. absurd (omega arith) })
-Keeps-linear c (g ∷ gs) formed linear tidy =
-    let d : Netlist = with_gates c (g ∷ []) in
-    let whole : with_gates d gs ≡ with_gates c (g ∷ gs) = with_gates-with_gates c (g ∷ []) gs in
-    let formed_before : Formed c = Formed-Grows c (with_gates c (g ∷ gs)) (Grows-with_gates c (g ∷ gs)) formed in
-    let one : KeepsTidy c d (value_count c ∷ []) = KeepsTidy-gate c g formed_before linear.0 (λ u uses. (linear.1 u uses).free) tidy in
-    let count : value_count d ≡ value_count c + 1 = value_count-with_gates c (g ∷ []) in
-    let later : AreLinear d gs = AreLinear-later c d gs (IsReady-later c d (value_count c ∷ []) (omega arith) one) linear.2 in
-    let rest : Keeps d (with_gates d gs) (value_count d) (value_count d + length gs) =
-        Keeps-linear d gs (subst Formed (sym whole) formed) later one.tidy in
-    let first : IsReady d (value_count c) =
-        record { below = omega arith; free = All-head (IsFree d) (value_count c) [] one.results_free } in
-    let more = rest.more in
-    subst (λ (e : Netlist). Keeps c e (value_count c) (value_count c + suc (length gs))) whole (record {
-      tidy = KeepsTidy-then c d (with_gates d gs) (value_count c ∷ []) [] (omega arith) one rest.tidy;
-      more = omega arith;
-      ready = λ u low high. elim (cases_lt (value_count c) u) [
-        | inl above ↦ rest.ready u (omega arith) (omega arith)
-        | inr here ↦ (let same : value_count c ≡ u = omega arith in
-            subst (IsReady (with_gates d gs)) same (IsReady-later d (with_gates d gs) [] rest.more rest.tidy (value_count c) first))
-      ];
-    })
-
-AreLinear-xor_gates : (c : Netlist) (us vs : List ℕ) → All (IsReady c) us → All (IsReady c) vs → AreLinear c (xor_gates us vs)
-unfolding xor_gates
-AreLinear-xor_gates c [] vs one two = tt
-AreLinear-xor_gates c (u ∷ us) [] one two = tt
-AreLinear-xor_gates c (u ∷ us) (v ∷ vs) one two = (
-  refl,
-  (λ w uses. elim uses [
-    | inl e ↦ subst (IsReady c) (sym e) (All-head (IsReady c) u us one)
-    | inr e ↦ subst (IsReady c) (sym e) (All-head (IsReady c) v vs two)
-  ]),
-  AreLinear-xor_gates c us vs (All-tail (IsReady c) u us one) (All-tail (IsReady c) v vs two),
-)
-
-AreLinear-not_gates : (c : Netlist) (bs : List Bool) (us : List ℕ) → All (IsReady c) us → AreLinear c (not_gates bs us)
-unfolding not_gates
-AreLinear-not_gates c [] us one = tt
-AreLinear-not_gates c (b ∷ bs) [] one = tt
-AreLinear-not_gates c (true ∷ bs) (u ∷ us) one =
-    (refl, (λ w uses. subst (IsReady c) (sym uses) (All-head (IsReady c) u us one)), AreLinear-not_gates c bs us (All-tail (IsReady c) u us one))
-AreLinear-not_gates c (false ∷ bs) (u ∷ us) one = AreLinear-not_gates c bs us (All-tail (IsReady c) u us one)
-
--- THE S-BOXES
-
--- what gates keep that hand back these values
+-- what is kept, where these values are handed back
 pub record KeepsWith (c d : Netlist) (us : List ℕ) : Type 0 where
   pub tidy : KeepsTidy c d []
   pub more : value_count c ≤ value_count d
   pub ready : All (IsReady d) us
 
-sbox_sound : (n : ℕ) → n ≡ 4 → is_part n sbox_steps ≡ true
-unfolding sbox_steps
-sbox_sound n long = rw long refl
+KeepsWith-tidy : (c d : Netlist) (us : List ℕ) → value_count c ≤ value_count d → All (λ u. u < value_count d) us → KeepsTidy c d us → KeepsWith c d us
+KeepsWith-tidy c d us more below keeps = record {
+  tidy = record { tidy = keeps.tidy; results_free = All-nil (IsFree d); still_free = keeps.still_free };
+  more = more;
+  ready = λ k z inside. record { below = below k z inside; free = keeps.results_free k z inside };
+}
 
-sbox_usable : (value_at (part_usable sbox_steps) 16 ≡ true) × (value_at (part_usable sbox_steps) 17 ≡ true)
-    × (value_at (part_usable sbox_steps) 21 ≡ true) × (value_at (part_usable sbox_steps) 25 ≡ true)
-unfolding sbox_steps
-sbox_usable = (refl, refl, refl, refl)
+-- LAYERS
+
+AllTake-xor_gates : (c : Netlist) (us vs : List ℕ) → All (IsReady c) us → All (IsReady c) vs → All (TakesFree c) (xor_gates us vs)
+unfolding xor_gates
+AllTake-xor_gates c [] vs one two = All-nil (TakesFree c)
+AllTake-xor_gates c (u ∷ us) [] one two = All-nil (TakesFree c)
+AllTake-xor_gates c (u ∷ us) (v ∷ vs) one two =
+    let left = All-head (IsReady c) u us one in let right = All-head (IsReady c) v vs two in
+    All-cons (TakesFree c) (Xor u v) (xor_gates us vs) (TakesFree-xor c u v left.below right.below left.free right.free)
+        (AllTake-xor_gates c us vs (All-tail (IsReady c) u us one) (All-tail (IsReady c) v vs two))
+
+AllTake-not_gates : (c : Netlist) (bs : List Bool) (us : List ℕ) → All (IsReady c) us → All (TakesFree c) (not_gates bs us)
+unfolding not_gates
+AllTake-not_gates c [] us one = All-nil (TakesFree c)
+AllTake-not_gates c (b ∷ bs) [] one = All-nil (TakesFree c)
+AllTake-not_gates c (true ∷ bs) (u ∷ us) one =
+    let first = All-head (IsReady c) u us one in
+    All-cons (TakesFree c) (Not u) (not_gates bs us) (TakesFree-not c u first.below first.free) (AllTake-not_gates c bs us (All-tail (IsReady c) u us one))
+AllTake-not_gates c (false ∷ bs) (u ∷ us) one = AllTake-not_gates c bs us (All-tail (IsReady c) u us one)
+
+KeepsWith-layer : (c : Netlist) (gs : List Gate) → Formed (with_gates c gs) → All (TakesFree c) gs → IsTidy c → KeepsWith c (with_gates c gs) (range_with_len (value_count c) (length gs))
+KeepsWith-layer c gs formed takes tidy =
+    let count = value_count-with_gates c gs in
+    KeepsWith-tidy c (with_gates c gs) (range_with_len (value_count c) (length gs)) (omega arith)
+        (All-range (λ u. u < value_count (with_gates c gs)) (value_count c) (length gs) (λ u low high. omega arith))
+        (KeepsTidy-layer c gs (Formed-Grows c (with_gates c gs) (Grows-with_gates c gs) formed) tidy takes)
+
+-- each of so many values in a row
+ready_in : (d : Netlist) (n k m : ℕ) → k ≡ m → All (IsReady d) (range_with_len n k) → (u : ℕ) → n ≤ u → u < n + m → IsReady d u
+ready_in d n k m same ready u low high =
+    let i = u - n in
+    let at : n + i ≡ u = omega arith in
+    let inside : i < length (range_with_len n k) = rw (length-range_with_len n k) (omega arith) in
+    subst (IsReady d) (get_or-range_with_len n k i 0 (omega arith) ∙ at) (All-get_or (IsReady d) (range_with_len n k) i 0 inside ready)
+
+-- THE S-BOXES
 
 pub count-with_sbox : (c : Netlist) (us : List ℕ) → value_count (with_sbox c us) ≡ value_count c + 26
-unfolding with_sbox with_part
-count-with_sbox c us = value_count-with_gates c (part_gates (value_count c) us sbox_steps) ∙ ap (λ k. value_count c + k) (length-sbox_gates (value_count c) us)
+unfolding with_sbox
+count-with_sbox c us = value_count-with_gates c (sbox_gates (value_count c) us) ∙ ap (λ k. value_count c + k) (length-sbox_gates (value_count c) us)
 
 pub KeepsWith-sbox : (c : Netlist) (us : List ℕ) → Formed c → length us ≡ 4 → All (IsReady c) us → IsTidy c → KeepsWith c (with_sbox c us) (sbox_results (value_count c))
-unfolding with_sbox
 KeepsWith-sbox c us formed long ready tidy =
-    let d : Netlist = with_part c us sbox_steps in
-    let n = value_count c in
-    let count : value_count d ≡ n + 26 = count-with_sbox c us in
-    let part = KeepsTidy-part c us sbox_steps formed (All-weaker (IsReady c) (λ u. u < n) (λ u r. r.below) us ready) (sbox_sound (length us) long) tidy
-        (All-weaker (IsReady c) (IsFree c) (λ u r. r.free) us ready) in
-    let usable = sbox_usable in
-    record {
-      tidy = part.0;
-      more = omega arith;
-      ready = All-sbox_results (IsReady d) n (record { below = omega arith; free = part.1 16 usable.0 }) (record { below = omega arith; free = part.1 17 usable.1 })
-          (record { below = omega arith; free = part.1 21 usable.2 }) (record { below = omega arith; free = part.1 25 usable.3 });
-    }
+    let count : value_count (with_sbox c us) ≡ value_count c + 26 = count-with_sbox c us in
+    KeepsWith-tidy c (with_sbox c us) (sbox_results (value_count c)) (omega arith)
+        (All-sbox_results (λ u. u < value_count (with_sbox c us)) (value_count c) (omega arith) (omega arith) (omega arith) (omega arith))
+        (KeepsTidy-sbox c us formed long (All-weaker (IsReady c) (λ u. u < value_count c) (λ u r. r.below) us ready) tidy
+            (All-weaker (IsReady c) (IsFree c) (λ u r. r.free) us ready))
 
 KeepsWith-sboxes : (m n : ℕ) (c : Netlist) (us : List ℕ) → n ≡ value_count c → Formed (with_gates c (sboxes m n us)) → length us ≡ 4 * m → All (IsReady c) us → IsTidy c
     → KeepsWith c (with_gates c (sboxes m n us)) (sboxes_results m n)
-unfolding sboxes sboxes_results with_sbox with_part
+unfolding sboxes sboxes_results with_sbox
 KeepsWith-sboxes zero n c us at formed long ready tidy =
     rw (with_gates-nil c) (record { tidy = KeepsTidy-refl c tidy; more = omega arith; ready = All-nil (IsReady c) })
 KeepsWith-sboxes (suc m) n c us at formed long ready tidy =
-    let first : List Gate = part_gates n (take 4 us) sbox_steps in
+    let first : List Gate = sbox_gates n (take 4 us) in
     let rest : List Gate = sboxes m (n + 26) (drop 4 us) in
     let d : Netlist = with_gates c first in
     let e : Netlist = with_gates d rest in
@@ -199,13 +162,13 @@ Steadies-key_added r s shape fits formed steady =
     let gs : List Gate = xor_gates s.block high in
     let long = fits.key in let block = fits.block in let wide = shape.wide in
     let count : length gs ≡ 64 = (Counts-xor_gates s.block high (block ∙ sym (length-drop (r.width - 64) s.key ∙ omega arith))).gates ∙ block in
-    let keeps = Keeps-linear s.draft gs formed
-        (AreLinear-xor_gates s.draft s.block high steady.ready.block (All-drop (IsReady s.draft) (r.width - 64) s.key steady.ready.key)) steady.tidy in
+    let keeps = KeepsWith-layer s.draft gs formed
+        (AllTake-xor_gates s.draft s.block high steady.ready.block (All-drop (IsReady s.draft) (r.width - 64) s.key steady.ready.key)) steady.tidy in
     record {
       kept = keeps.tidy;
       more = keeps.more;
       ready = Holds-key_added (IsReady s.draft) (IsReady (with_gates s.draft gs)) s (IsReady-later s.draft _ [] keeps.more keeps.tidy) steady.ready r
-          (λ u low under. keeps.ready u low (omega arith));
+          (ready_in (with_gates s.draft gs) (value_count s.draft) (length gs) 64 count keeps.ready);
     }
 
 pub Steadies-block_substituted : (r : Register) (s : Stage) → Fits r s → Formed (block_substituted s).draft → Steady s → Steadies s (block_substituted s)
@@ -247,11 +210,12 @@ unfolding key_counted
 Steadies-key_counted r i s formed steady =
     let us : List ℕ = counter_values r s in
     let ready_us : All (IsReady s.draft) us = All-take (IsReady s.draft) 5 (drop r.counter s.key) (All-drop (IsReady s.draft) r.counter s.key steady.ready.key) in
-    let keeps = Keeps-linear s.draft (not_gates (lowest 5 i) us) formed (AreLinear-not_gates s.draft (lowest 5 i) us ready_us) steady.tidy in
+    let keeps = KeepsWith-layer s.draft (not_gates (lowest 5 i) us) formed (AllTake-not_gates s.draft (lowest 5 i) us ready_us) steady.tidy in
     record {
       kept = keeps.tidy;
       more = keeps.more;
-      ready = Holds-key_counted (IsReady s.draft) (IsReady (key_counted r i s).draft) s (IsReady-later s.draft _ [] keeps.more keeps.tidy) steady.ready r i keeps.ready;
+      ready = Holds-key_counted (IsReady s.draft) (IsReady (key_counted r i s).draft) s (IsReady-later s.draft _ [] keeps.more keeps.tidy) steady.ready r i
+          (ready_in (key_counted r i s).draft (value_count s.draft) _ _ refl keeps.ready);
     }
 
 pub Steadies-nibbles : (r : Register) (ats : List ℕ) (s : Stage) → AllWithin r.width ats → Fits r s → Formed (fold key_replaced s ats).draft → Steady s

@@ -10,8 +10,7 @@ use Rattle.mask_circuit.specs.declared.gates.Gate.TheVariants.{Xor, Not}
 use Rattle.mask_circuit.specs.Netlist.{Netlist, value_count, only_inputs}
 use Rattle.mask_parts.specs.Drafts.{with_gates}
 use Rattle.mask_parts.specs.Fences.{with_fence}
-use Rattle.mask_parts.specs.PresentSbox.{sbox_steps, sbox_results, with_sbox}
-use Rattle.mask_parts.specs.Tables.{part_gates}
+use Rattle.mask_parts.specs.PresentSbox.{sbox_gates, sbox_results, with_sbox}
 use Rattle.mask_tasks.specs.declared.sizes.KeySize.{KeySize}
 use Rattle.mask_present.specs.Present.{Register, register}
 
@@ -45,7 +44,7 @@ key_added r s = record {
 -- m S-boxes, each on the next four values; the first value made is n
 unfoldable pub sboxes : ℕ → ℕ → List ℕ → List Gate
 sboxes zero n us = []
-sboxes (suc m) n us = part_gates n (take 4 us) sbox_steps ++ sboxes m (n + 26) (drop 4 us)
+sboxes (suc m) n us = sbox_gates n (take 4 us) ++ sboxes m (n + 26) (drop 4 us)
 
 unfoldable pub sboxes_results : ℕ → ℕ → List ℕ
 sboxes_results zero n = []

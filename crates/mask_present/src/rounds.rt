@@ -60,6 +60,27 @@ fn rounds(b: &mut Builder, size: KeySize, key: &mut [u32], block: &[u32; 64]) ->
     add_key(b, size, key, &state)
 }
 
+// So the block is encrypted, on a copy of the key.
+fn encrypted(b: &mut Builder, size: KeySize, key: &[u32], block: &[u32; 64]) -> Result<[u32; 64], CircuitError>
+    requires width { length key.now ≡ (register size).width }
+    requires key_known { All (λ u. u < value_count b.old) key.now }
+    requires block_known { All (λ u. u < value_count b.old) block.now }
+    ensures { let s = rounds (register size) (stage b.old key.now block.now) in Lays b.old s.draft s.block b.new result }
+{
+    match size {
+        KeySize::K80 => {
+            let mut register = [0; 80];
+            register.copy_from_slice(key);
+            rounds(b, size, &mut register, block)
+        }
+        KeySize::K128 => {
+            let mut register = [0; 128];
+            register.copy_from_slice(key);
+            rounds(b, size, &mut register, block)
+        }
+    }
+}
+
 /// The encryption of the block `state` under the key: 31 rounds, and the last round key. Both are lists of values, that of
 /// bit 0 first.
 pub fn present_rounds(
@@ -77,17 +98,7 @@ pub fn present_rounds(
     ensures tidy { IfOk result (λ y. IsTidy b.old → All (λ u. IsFree b.old u) key.now → All (λ u. IsFree b.old u) state.now →
         KeepsTidy b.old b.new y) }
 {
+    let encrypted = encrypted(b, size, key, state)?;
     let _values = b.values();
-    match size {
-        KeySize::K80 => {
-            let mut register = [0; 80];
-            register.copy_from_slice(key);
-            rounds(b, size, &mut register, state)
-        }
-        KeySize::K128 => {
-            let mut register = [0; 128];
-            register.copy_from_slice(key);
-            rounds(b, size, &mut register, state)
-        }
-    }
+    Ok(encrypted)
 }
