@@ -1,5 +1,5 @@
 -- From a tidy draft with a fence to the contract of a cipher's circuit.
-use Rattle.std.proofs.Common.{◌≡◌, ℕ, ◌<◌, ◌≤◌, Bool, List, [], length, All}
+use Rattle.std.proofs.Common.{◌≡◌, ℕ, ◌<◌, Bool, List, [], length, All}
 use Rattle.mask_circuit.specs.Netlist.{Netlist, IsCircuit, AreGates, value_count}
 use Rattle.mask_circuit.specs.Value.{plain}
 use Rattle.mask_circuit.specs.Acceptance.{IsStrong, IsTidy}

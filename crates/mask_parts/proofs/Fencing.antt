@@ -1,23 +1,23 @@
 -- The fence: a circuit that is accepted and hands out nothing yet is strong once its values are fenced.
-use Rattle.std.proofs.Common.{◌≡◌, ◌≢◌, ℕ, zero, suc, ◌+◌, ◌-◌, ◌<◌, ◌≤◌, ◌⊎◌, inl, inr, Bool, false, Option, Some, None, List, [], ◌∷◌, ◌++◌, length, map, get_or, slice_get, All, refl, ap, ap₂, sym, ◌∙◌, subst, arith, zero-add, add-one, length-append}
+use Rattle.std.proofs.Common.{◌≡◌, ℕ, zero, suc, ◌+◌, ◌-◌, ◌<◌, ◌≤◌, ◌⊎◌, inl, inr, Bool, Some, List, [], ◌∷◌, ◌++◌, length, map, get_or, slice_get, All, refl, ap, ap₂, sym, ◌∙◌, subst, arith, zero-add, add-one}
 use Rattle.std.specs.List.{range_with_len}
 use Rattle.std.proofs.lemmas.Bool.{cases_lt}
-use Rattle.std.proofs.lemmas.List.{append-nil, length-map, map-append}
+use Rattle.std.proofs.lemmas.List.{length-map, map-append}
 use Rattle.std.proofs.lemmas.List.Elements.{All-head, All-tail}
 use Rattle.std.proofs.lemmas.List.FromFn.{length-range_with_len, get_or-range_with_len}
 use Rattle.std.proofs.lemmas.Option.{same_Some}
 use Rattle.mask_circuit.specs.declared.gates.Gate.{Gate}
-use Rattle.mask_circuit.specs.declared.gates.Gate.TheVariants.{Zero, One, Xor, Not, And, Ref}
-use Rattle.mask_circuit.specs.Netlist.{Netlist, AreGates, OperandsBelow, value_count}
+use Rattle.mask_circuit.specs.declared.gates.Gate.TheVariants.{And, Ref}
+use Rattle.mask_circuit.specs.Netlist.{Netlist, AreGates, value_count}
 use Rattle.mask_circuit.specs.Value.{value_at, plain_values, plain}
-use Rattle.mask_circuit.specs.Acceptance.{output_at, gate_at, IsTidy, Reaches, Input, ProductHere, RefreshHere, FromLeft, FromRight, FromNegated, IsShared, IsAccepted, Uses, IsFence, IsFenced, IsStrong}
+use Rattle.mask_circuit.specs.Acceptance.{output_at, gate_at, IsTidy, Reaches, Input, ProductHere, RefreshHere, FromLeft, FromRight, FromNegated, IsAccepted, Uses, IsFenced, IsStrong}
 use Rattle.mask_circuit.proofs.GateAt.{gate_at_within, gate_at_operands, gate_at_gate}
 use Rattle.mask_parts.specs.Drafts.{with_gates, with_outputs, bits_of}
 use Rattle.mask_parts.specs.Fences.{with_fence}
 use Rattle.mask_parts.specs.Tidiness.{IsFree, KeepsTidy}
-use Rattle.mask_parts.proofs.Growing.{value_count-with_gates, AreGates-with_gates, outputs-with_gates, outputs-with_outputs, with_gates-nil, with_gates-with_gates}
+use Rattle.mask_parts.proofs.Growing.{value_count-with_gates, AreGates-with_gates, with_gates-nil, with_gates-with_gates}
 use Rattle.mask_parts.proofs.Keeping.{gate_at-old, gate_at-past, Uses-below, KeepsTidy-gate, KeepsTidy-refl, KeepsTidy-then, IsFree-All}
-use Rattle.mask_parts.proofs.Solving.{Solves, Solves-with_gates, value_at-with_gates, bits_of-with_gates, bits_of-with_outputs}
+use Rattle.mask_parts.proofs.Solving.{Solves, Solves-with_gates, bits_of-with_gates}
 
 -- WHAT LATER GATES LEAVE
 
@@ -132,7 +132,7 @@ module _ (c : Netlist) (us : List ℕ) (are : AreGates c.inputs c.gates) (below 
       | inl lt ↦
           let at : v ≡ value_count c + (v - value_count c) = omega arith in
           let operand : value_count c + k ≡ get_or us (v - value_count c) 0 =
-              subst (Uses (value_count c + k)) (ap (gate_at (with_fence c us)) at ∙ fence_gate (v - value_count c) lt) uses in
+          subst (Uses (value_count c + k)) (ap (gate_at (with_fence c us)) at ∙ fence_gate (v - value_count c) lt) uses in
           let low = below (v - value_count c) 0 lt in omega arith
       | inr past ↦ absurd (subst (Uses (value_count c + k)) (gate_at-past (with_fence c us) v (omega (arith, value_count-with_fence))) uses)
     ]
@@ -185,7 +185,7 @@ KeepsTidy-refs c (u ∷ us) are below t free =
     let keeps = KeepsTidy-gate c (Ref u) are refl (λ w same. subst (IsFree c) (sym same) u_free) t in
     let rest_below : All (λ w. w < value_count c) us = All-tail (λ (w : ℕ). w < value_count c) u us below in
     let up = KeepsTidy-refs d us (AreGates-with_gates c (Ref u ∷ []) are (u_below, tt)) (λ k z lt. let x = rest_below k z lt in omega arith) keeps.tidy
-        (IsFree-All c d us _ keeps rest_below (All-tail (IsFree c) u us free)) in
+    (IsFree-All c d us _ keeps rest_below (All-tail (IsFree c) u us free)) in
     subst (λ (e : Netlist). KeepsTidy c e []) (with_gates-with_gates c (Ref u ∷ []) (map Ref us)) (KeepsTidy-then c d _ _ [] (omega (arith, more)) keeps up)
 
 -- outputs change nothing of it

@@ -1,7 +1,7 @@
 -- A layer: gates that are no products and take free values of the draft before them.
-use Rattle.std.proofs.Common.{◌≡◌, ℕ, suc, ◌+◌, ◌<◌, ◌≤◌, ◌⊎◌, inl, inr, Bool, false, Some, List, [], ◌∷◌, length, All, refl, ap, sym, ◌∙◌, subst, arith}
+use Rattle.std.proofs.Common.{◌≡◌, ℕ, suc, ◌+◌, ◌<◌, ◌≤◌, inl, inr, false, Some, List, [], ◌∷◌, length, All, refl, sym, subst, arith}
 use Rattle.std.specs.List.{range_with_len}
-use Rattle.std.proofs.lemmas.List.Elements.{All-nil, All-cons, All-head, All-tail, All-weaker}
+use Rattle.std.proofs.lemmas.List.Elements.{All-cons, All-head, All-tail, All-weaker}
 use Rattle.mask_circuit.specs.declared.gates.Gate.{Gate}
 use Rattle.mask_circuit.specs.declared.gates.Gate.TheVariants.{Zero, One, Xor, Not, And, Ref}
 use Rattle.mask_circuit.specs.Netlist.{Netlist, AreGates, OperandsBelow, value_count, is_product}
@@ -68,8 +68,8 @@ KeepsTidy-layer c (g ∷ gs) are tidy takes =
       taken = λ u uses. (let t = takes_free.taken u uses in (omega (arith, t.0, more), first.still_free u t.0 t.1));
     } in
     let up : KeepsTidy d e (range_with_len (value_count d) (length gs)) =
-        KeepsTidy-layer d gs (AreGates-with_gates c (g ∷ []) are (OperandsBelow-free c n g (omega arith) here, tt)) first.tidy
-        (All-weaker (TakesFree c) (TakesFree d) later gs (All-tail (TakesFree c) g gs takes)) in
+    KeepsTidy-layer d gs (AreGates-with_gates c (g ∷ []) are (OperandsBelow-free c n g (omega arith) here, tt)) first.tidy
+    (All-weaker (TakesFree c) (TakesFree d) later gs (All-tail (TakesFree c) g gs takes)) in
     subst (λ (x : Netlist). KeepsTidy c x (range_with_len n (suc (length gs)))) (with_gates-with_gates c (g ∷ []) gs) (record {
       tidy = up.tidy;
       results_free = All-cons (IsFree e) n (range_with_len (n + 1) (length gs))

@@ -1,12 +1,12 @@
 -- Calls that lay gates: a call of a builder is one, and what a call of several does where one of them refuses.
-use Rattle.std.proofs.Common.{◌≡◌, ℕ, ◌+◌, ◌≤◌, ◌<◌, ◌↔◌, List, [], ◌∷◌, ◌++◌, length, Result, Ok, Err, IfOk, OnOk, OnErr, IsErrOf, IsErrAnd, refl, ap, sym, ◌∙◌, inl, inr, subst, arith, length-append}
+use Rattle.std.proofs.Common.{◌≡◌, ℕ, ◌≤◌, ◌<◌, ◌↔◌, [], ◌∷◌, length, Result, Ok, Err, IfOk, OnOk, OnErr, IsErrOf, IsErrAnd, refl, ap, sym, ◌∙◌, inl, inr, subst, arith, length-append}
 use Rattle.std.proofs.lemmas.Bool.{cases_lt}
 use Rattle.mask_circuit.specs.declared.gates.Gate.{Gate}
 use Rattle.mask_circuit.specs.declared.builders.CircuitError.{CircuitError}
 use Rattle.mask_circuit.specs.declared.builders.CircuitError.TheVariants.{TooManyValues}
 use Rattle.mask_circuit.specs.Netlist.{Netlist, IsCircuit, value_count, with_gate, with_output}
 use Rattle.mask_parts.specs.Drafts.{with_gates, with_outputs, Grows, IsWithinLimits, IsRefused, Lays}
-use Rattle.mask_parts.proofs.Growing.{value_count-with_gates, outputs-with_gates, value_count-with_outputs, outputs-with_outputs, Grows-refl, Grows-trans, Grows-with_gates, Grows-with_outputs, IsWithinLimits-before}
+use Rattle.mask_parts.proofs.Growing.{value_count-with_gates, Grows-refl, Grows-trans, Grows-with_gates, Grows-with_outputs, IsWithinLimits-before}
 
 -- a circuit is within the limits
 pub IsWithinLimits-circuit : (c : Netlist) → IsCircuit c → IsWithinLimits c
@@ -42,10 +42,14 @@ pub Lays-from_gate : (before : Netlist) (g : Gate) (after : Netlist) (r : Result
     OnErr r (after ≡ before) →
     Lays before (with_gates before (g ∷ [])) (value_count before) after r
 unfolding with_gates
-Lays-from_gate before g after (Ok v) is made full same = (made.0, made.1, record {
-  values = let room = has_room v (value_count before) full in omega (arith, length-append before.gates (g ∷ []));
-  outputs = is.outputs;
-})
+Lays-from_gate before g after (Ok v) is made full same = (
+  made.0,
+  made.1,
+  record {
+    values = let room = has_room v (value_count before) full in omega (arith, length-append before.gates (g ∷ []));
+    outputs = is.outputs;
+  },
+)
 Lays-from_gate before g after (Err e) is made full same =
     IsRefused-same before (with_gates before (g ∷ [])) after e same (Grows-with_gates before (g ∷ []))
     (λ eq within. let many : 1_000_000 ≤ value_count before = full.0 (ap Err eq) in
@@ -58,10 +62,14 @@ pub Lays-from_out : (before : Netlist) (u : ℕ) (after : Netlist) (r : Result (
     OnErr r (after ≡ before) →
     Lays before (with_outputs before (u ∷ [])) tt after r
 unfolding with_outputs
-Lays-from_out before u after (Ok v) is made full same = (refl, made, record {
-  values = is.values;
-  outputs = let room = has_room v (length before.outputs) full in omega (arith, length-append before.outputs (u ∷ []));
-})
+Lays-from_out before u after (Ok v) is made full same = (
+  refl,
+  made,
+  record {
+    values = is.values;
+    outputs = let room = has_room v (length before.outputs) full in omega (arith, length-append before.outputs (u ∷ []));
+  },
+)
 Lays-from_out before u after (Err e) is made full same =
     IsRefused-same before (with_outputs before (u ∷ [])) after e same (Grows-with_outputs before (u ∷ []))
     (λ eq within. let many : 1_000_000 ≤ length before.outputs = full.0 (ap Err eq) in

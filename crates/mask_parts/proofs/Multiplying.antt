@@ -1,5 +1,5 @@
 -- What a product computes.
-use Rattle.std.proofs.Common.{◌≡◌, ℕ, suc, ◌+◌, ◌<◌, Bool, ◌&&◌, List, [], ◌∷◌, length, ap, ap₂, ◌∙◌, arith, add-one}
+use Rattle.std.proofs.Common.{◌≡◌, ℕ, suc, ◌+◌, ◌<◌, Bool, ◌&&◌, List, length, ap, ap₂, ◌∙◌, arith, add-one}
 use Rattle.mask_circuit.specs.Netlist.{Netlist, AreGates, value_count}
 use Rattle.mask_circuit.specs.Value.{value_at, plain_values}
 use Rattle.mask_parts.specs.Drafts.{with_gates}
@@ -15,7 +15,7 @@ product-solved vs n u v s = rw (add-one n) (s.1.0 ∙ ap (λ (b : Bool). value_a
 
 pub value_at-with_product : (c : Netlist) (u v : ℕ) (x : List Bool) → length x ≡ c.inputs → u < value_count c → v < value_count c →
     value_at (plain_values (with_gates c (product_gates (value_count c) u v)) x) (value_count c + 1)
-        ≡ (value_at (plain_values c x) u && value_at (plain_values c x) v)
+    ≡ (value_at (plain_values c x) u && value_at (plain_values c x) v)
 value_at-with_product c u v x long u_below v_below =
     let n = value_count c in
     let gs = product_gates n u v in

@@ -1,10 +1,9 @@
 -- The definitions of parts at worked examples, computed.
-use Rattle.std.proofs.Common.{◌≡◌, ℕ, Bool, true, false, List, [], ◌∷◌, refl, map, length}
+use Rattle.std.proofs.Common.{◌≡◌, true, false, [], ◌∷◌, refl, map, length}
 use Rattle.std.specs.List.{count_by}
 use Rattle.mask_bits.specs.Reading.{number}
-use Rattle.mask_circuit.specs.declared.gates.Gate.{Gate}
 use Rattle.mask_circuit.specs.declared.gates.Gate.TheVariants.{Xor, Not, And, Ref}
-use Rattle.mask_circuit.specs.Netlist.{Netlist, only_inputs, is_product, is_refresh}
+use Rattle.mask_circuit.specs.Netlist.{only_inputs, is_product, is_refresh}
 use Rattle.mask_circuit.specs.Value.{value_at, plain}
 use Rattle.mask_parts.specs.declared.tables.Place.TheVariants.{Given, Made}
 use Rattle.mask_parts.specs.declared.tables.Step.TheVariants.{Xor as XorStep, Product}

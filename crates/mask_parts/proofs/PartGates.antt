@@ -1,5 +1,5 @@
 -- The gates of a sound table: they take earlier values alone, and what they compute can be read off the table.
-use Rattle.std.proofs.Common.{◌≡◌, ℕ, suc, ◌+◌, ◌<◌, ◌≤◌, Bool, true, false, not, ◌&&◌, inl, inr, List, [], ◌∷◌, ◌++◌, length, map, All, refl, ap, ap₂, sym, ◌∙◌, subst, arith, add-one, length-append}
+use Rattle.std.proofs.Common.{◌≡◌, ℕ, suc, ◌+◌, ◌<◌, Bool, true, false, not, ◌&&◌, inl, inr, List, [], ◌∷◌, ◌++◌, length, map, All, refl, ap, ap₂, sym, ◌∙◌, subst, arith, length-append}
 use Rattle.std.specs.List.{range_with_len}
 use Rattle.std.proofs.lemmas.Bool.{cases_lt, false≢true, ltb-true, and_parts}
 use Rattle.std.proofs.lemmas.List.{append_assoc, get_or_past, get_or-map}
@@ -75,8 +75,8 @@ length-gates_from n xs made (s ∷ ss) =
     let rest : List Gate = gates_from n xs (m + length (step_usable s)) ss in
     let grown : length (made ++ step_usable s) ≡ m + length (step_usable s) = length-append made (step_usable s) in
     let up : m + length (step_usable s) + length rest ≡ length (usable_from (made ++ step_usable s) ss) =
-        subst (λ (k : ℕ). k + length (gates_from n xs k ss) ≡ length (usable_from (made ++ step_usable s) ss)) grown
-        (length-gates_from n xs (made ++ step_usable s) ss) in
+    subst (λ (k : ℕ). k + length (gates_from n xs k ss) ≡ length (usable_from (made ++ step_usable s) ss)) grown
+    (length-gates_from n xs (made ++ step_usable s) ss) in
     omega (arith, length-append (step_gates n xs m s) rest, length-step_gates n m xs s)
 
 -- a part has a gate for each value that it makes
@@ -101,7 +101,7 @@ bits_at-more vs n m b is = rw is (sym (map-range_with_len_more (value_at vs) n m
 
 step_bits-solved : (vs : List Bool) (n m : ℕ) (xs : List ℕ) (s : Step) → ArePlaces (length xs) m s → Solves vs (n + m) (step_gates n xs m s) →
     bits_at vs (range_with_len n m) ++ step_bits (bits_at vs xs) (bits_at vs (range_with_len n m)) s
-        ≡ bits_at vs (range_with_len n (m + length (step_usable s)))
+    ≡ bits_at vs (range_with_len n (m + length (step_usable s)))
 step_bits-solved vs n m xs (Xor p q) are s =
     bits_at-more vs n m _ (ap₂ xor (place_bit-solved vs n m xs p are.0) (place_bit-solved vs n m xs q are.1) ∙ sym s.0)
 step_bits-solved vs n m xs (Not p) are s = bits_at-more vs n m _ (ap not (place_bit-solved vs n m xs p are) ∙ sym s.0)
@@ -114,7 +114,7 @@ step_bits-solved vs n m xs (Product p q) are s =
     let next : suc (n + m) ≡ n + (m + 1) = omega arith in
     let two : m + 1 + 1 ≡ m + 2 = omega arith in
     let multiplied : b ≡ value_at vs (n + (m + 1)) =
-        ap₂ ◌&&◌ (place_bit-solved vs n m xs p are.0) refreshed ∙ sym s.1.0 ∙ ap (value_at vs) next in
+    ap₂ ◌&&◌ (place_bit-solved vs n m xs p are.0) refreshed ∙ sym s.1.0 ∙ ap (value_at vs) next in
     sym (append_assoc ms (bq ∷ []) (b ∷ []))
     ∙ ap (λ (bs : List Bool). bs ++ b ∷ []) (bits_at-more vs n m bq refreshed)
     ∙ bits_at-more vs n (m + 1) b multiplied

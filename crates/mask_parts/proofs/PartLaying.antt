@@ -1,5 +1,5 @@
 -- Laying a part step by step: what is left of the table, laid on what is there, gives the whole part.
-use Rattle.std.proofs.Common.{◌≡◌, ℕ, ◌+◌, ◌-◌, Bool, true, false, List, [], ◌∷◌, ◌++◌, length, refl, ap, sym, ◌∙◌, subst, arith, add-zero, length-append}
+use Rattle.std.proofs.Common.{◌≡◌, ℕ, ◌+◌, ◌-◌, Bool, true, List, [], ◌∷◌, ◌++◌, length, ap, sym, ◌∙◌, subst, arith, add-zero, length-append}
 use Rattle.std.proofs.lemmas.Bool.{and_parts}
 use Rattle.mask_circuit.specs.declared.gates.Gate.{Gate}
 use Rattle.mask_circuit.specs.Netlist.{Netlist, value_count}
@@ -48,9 +48,9 @@ module _ (before now whole : Netlist) (first : ℕ) (xs : List ℕ) (s : Step) (
       let laid : after ≡ with_gates now here = is ∙ ap (λ (k : ℕ). with_gates now (step_gates first xs k s)) made_by_now in
       let grown : length (way.made ++ step_usable s) ≡ m + length (step_usable s) = length-append way.made (step_usable s) in
       let left : with_gates after (gates_from first xs (length (way.made ++ step_usable s)) ss) ≡ with_gates now (gates_from first xs m (s ∷ ss)) =
-          ap (λ (k : ℕ). with_gates after (gates_from first xs k ss)) grown
-          ∙ ap (λ (d : Netlist). with_gates d (gates_from first xs (m + length (step_usable s)) ss)) laid
-          ∙ with_gates-with_gates now here (gates_from first xs (m + length (step_usable s)) ss) in
+      ap (λ (k : ℕ). with_gates after (gates_from first xs k ss)) grown
+      ∙ ap (λ (d : Netlist). with_gates d (gates_from first xs (m + length (step_usable s)) ss)) laid
+      ∙ with_gates-with_gates now here (gates_from first xs (m + length (step_usable s)) ss) in
       record {
         made = way.made ++ step_usable s;
         count = ap value_count laid ∙ omega (arith, way.count, value_count-with_gates now here, length-step_gates first m xs s);

@@ -1,8 +1,8 @@
 -- A sound table keeps a draft tidy, and later steps may take what its flags say.
-use Rattle.std.proofs.Common.{◌≡◌, ℕ, zero, suc, ◌+◌, ◌-◌, ◌<◌, ◌≤◌, ◌⊎◌, inl, inr, Bool, true, false, Some, List, [], ◌∷◌, ◌++◌, length, slice_index, All, refl, ap, sym, ◌∙◌, subst, arith, add-zero, length-append}
+use Rattle.std.proofs.Common.{◌≡◌, ℕ, zero, suc, ◌+◌, ◌-◌, ◌<◌, ◌≤◌, ◌⊎◌, inl, inr, Bool, true, false, Some, List, [], ◌∷◌, ◌++◌, length, All, refl, ap, sym, ◌∙◌, subst, arith, add-zero, length-append}
 use Rattle.std.proofs.lemmas.Bool.{cases_lt, false≢true, ltb-true, and_parts}
-use Rattle.std.proofs.lemmas.List.{append-nil, get_or_append_left, get_or-append-add}
-use Rattle.std.proofs.lemmas.List.Elements.{All-nil, All-head}
+use Rattle.std.proofs.lemmas.List.{get_or_append_left, get_or-append-add}
+use Rattle.std.proofs.lemmas.List.Elements.{All-head}
 use Rattle.mask_circuit.specs.declared.gates.Gate.{Gate}
 use Rattle.mask_circuit.specs.declared.gates.Gate.TheVariants.{Xor as XorGate, Not as NotGate}
 use Rattle.mask_circuit.specs.Netlist.{Netlist, AreGates, value_count, is_product}
@@ -85,7 +85,7 @@ begun_on : (c d : Netlist) (n : ℕ) (xs : List ℕ) (made : List Bool) (s : Ste
 begun_on c d n xs made s is sound b us keeps free =
     let m = length made in
     let operands : AreGates (value_count c) (step_gates n xs m s) =
-        rw b.count (AreGates-step n m xs s b.below (ArePlaces-from_test (length xs) made s sound)) in
+    rw b.count (AreGates-step n m xs s b.below (ArePlaces-from_test (length xs) made s sound)) in
     record {
       gates = rw is (AreGates-with_gates c (step_gates n xs m s) b.gates operands);
       tidy = keeps.tidy;
@@ -129,7 +129,7 @@ step_kept c n xs made (Product p q) b sound =
     let left = (and_parts _ _ sound).0 in
     let right = (and_parts _ _ sound).1 in
     let keeps = KeepsTidy-product c u v b.gates (place_below c n xs made p b left) (place_below c n xs made q b right)
-        (place_free c n xs made p b left) (place_free c n xs made q b right) b.tidy in
+    (place_free c n xs made p b left) (place_free c n xs made q b right) b.tidy in
     subst (λ (k : ℕ). IsKept c (with_gates c (product_gates k u v)) n (made ++ false ∷ true ∷ [])) b.count
     (let d = with_gates c (product_gates (value_count c) u v) in
     record {
@@ -152,7 +152,7 @@ gates_kept c n xs made (s ∷ ss) b sound =
     let rest : ℕ → List Gate = λ j. gates_from n xs j ss in
     let grown : length (made ++ step_usable s) ≡ m + length (step_usable s) = length-append made (step_usable s) in
     let whole : with_gates d (rest (length (made ++ step_usable s))) ≡ with_gates c (here ++ rest (m + length (step_usable s))) =
-        ap (λ (j : ℕ). with_gates d (rest j)) grown ∙ with_gates-with_gates c here (rest (m + length (step_usable s))) in
+    ap (λ (j : ℕ). with_gates d (rest j)) grown ∙ with_gates-with_gates c here (rest (m + length (step_usable s))) in
     subst (λ (e : Netlist). KeepsTidy c e [] × AreFree e n (usable_from (made ++ step_usable s) ss)) whole
     (let more : value_count c ≤ value_count d = omega (arith, value_count-with_gates c here) in
     let on = begun_on c d n xs made s refl (and_parts _ _ sound).0 b k.results k.keeps k.free in

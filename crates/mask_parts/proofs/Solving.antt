@@ -1,12 +1,11 @@
 -- The plain values of a draft solve its gates: each is what its gate makes of them. So what a part computes is read off
 -- the values of the final draft, whatever was laid before and behind it.
-use Rattle.std.proofs.Common.{◌≡◌, ℕ, zero, suc, ◌+◌, ◌<◌, ◌≤◌, Bool, true, false, not, ◌&&◌, List, [], ◌∷◌, ◌++◌, length, map, get_or, All, refl, ap, ap₂, sym, ◌∙◌, subst, arith, add-one, add-zero, length-append}
-use Rattle.std.specs.List.{range_with_len}
-use Rattle.std.proofs.lemmas.List.{append_assoc, append-nil, get_or_append_left, get_or_at, length_push, map-append}
+use Rattle.std.proofs.Common.{◌≡◌, ℕ, suc, ◌+◌, ◌<◌, Bool, false, not, ◌&&◌, List, [], ◌∷◌, ◌++◌, length, All, refl, ap, ap₂, sym, ◌∙◌, subst, arith, add-one, add-zero}
+use Rattle.std.proofs.lemmas.List.{get_or_append_left, get_or_at, length_push}
 use Rattle.mask_circuit.specs.declared.gates.Gate.{Gate}
 use Rattle.mask_circuit.specs.declared.gates.Gate.TheVariants.{Zero, One, Xor, Not, And, Ref}
 use Rattle.mask_circuit.specs.Netlist.{Netlist, OperandsBelow, AreGates, value_count}
-use Rattle.mask_circuit.specs.Value.{xor, value_at, gate_value, values_from, plain_values, plain}
+use Rattle.mask_circuit.specs.Value.{xor, value_at, gate_value, values_from, plain_values}
 use Rattle.mask_parts.specs.Drafts.{with_gates, with_outputs, bits_of}
 
 -- each value is what its gate makes of the values, where the first of these gates makes value n
@@ -59,13 +58,12 @@ Solves-values_from (g ∷ gs) vs are =
     let ws = vs ++ gate_value g vs ∷ [] in
     let one : length ws ≡ suc (length vs) = length_push vs (gate_value g vs) ∙ add-one (length vs) in
     let here : value_at (values_from gs ws) (length vs) ≡ gate_value g vs =
-        values_from-keeps gs ws (length vs) (omega arith) ∙ get_or_at vs (gate_value g vs) [] false (length vs) refl in
+    values_from-keeps gs ws (length vs) (omega arith) ∙ get_or_at vs (gate_value g vs) [] false (length vs) refl in
     let same : (u : ℕ) → u < length vs → value_at vs u ≡ value_at (values_from gs ws) u =
-        λ u below. sym (values_from-keeps (g ∷ gs) vs u below) in
-    (
+    λ u below. sym (values_from-keeps (g ∷ gs) vs u below) in (
       here ∙ gate_value-same g (length vs) vs (values_from gs ws) are.0 same,
       subst (λ (m : ℕ). Solves (values_from gs ws) m gs) one
-      (Solves-values_from gs ws (subst (λ (m : ℕ). AreGates m gs) (sym one) are.1)),
+          (Solves-values_from gs ws (subst (λ (m : ℕ). AreGates m gs) (sym one) are.1)),
     )
 
 -- DRAFTS

@@ -1,5 +1,5 @@
 -- The circuit for the S-box of PRESENT: its gates, and that it computes the table.
-use Rattle.std.proofs.Common.{◌≡◌, ℕ, ◌+◌, ◌<◌, Bool, true, false, List, [], ◌∷◌, length, map, All, refl, ap, ap₂, sym, ◌∙◌, subst, arith, lit<}
+use Rattle.std.proofs.Common.{◌≡◌, ℕ, ◌+◌, ◌<◌, Bool, true, false, List, [], ◌∷◌, length, map, All, refl, ap, ap₂, sym, ◌∙◌, arith, lit<}
 use Rattle.std.specs.List.{range_with_len, count_by}
 use Rattle.std.proofs.lemmas.List.Elements.{All-nil, All-cons}
 use Rattle.std.proofs.lemmas.List.FromFn.{get_or-map-range_with_len}
@@ -8,7 +8,7 @@ use Rattle.mask_circuit.specs.Netlist.{Netlist, AreGates, value_count, is_produc
 use Rattle.mask_circuit.specs.Value.{value_at, plain_values}
 use Rattle.mask_circuit.specs.Acceptance.{IsTidy}
 use Rattle.mask_parts.specs.Drafts.{with_gates, bits_of}
-use Rattle.mask_parts.specs.Tables.{part_gates, part_bits, part_usable, is_part, with_part}
+use Rattle.mask_parts.specs.Tables.{part_bits, part_usable, is_part, with_part}
 use Rattle.mask_parts.specs.PresentSbox.{sbox, sbox_steps, sbox_gates, sbox_results, with_sbox}
 use Rattle.mask_parts.specs.Tidiness.{IsFree, KeepsTidy}
 use Rattle.mask_parts.proofs.PartGates.{AreGates-part, part_bits-solved}
@@ -78,11 +78,11 @@ unfolding sbox_gates sbox_results results
 sbox-solved vs n (a ∷ b ∷ c ∷ d ∷ []) four s =
     let bits = part_bits (map (value_at vs) (a ∷ b ∷ c ∷ d ∷ [])) sbox_steps in
     let made : bits ≡ map (value_at vs) (range_with_len n 26) =
-        part_bits-solved vs n (a ∷ b ∷ c ∷ d ∷ []) sbox_steps is_part-sbox s ∙ ap (λ (k : ℕ). map (value_at vs) (range_with_len n k)) length-usable in
+    part_bits-solved vs n (a ∷ b ∷ c ∷ d ∷ []) sbox_steps is_part-sbox s ∙ ap (λ (k : ℕ). map (value_at vs) (range_with_len n k)) length-usable in
     let at : (i : ℕ) → i < 26 → value_at vs (n + i) ≡ value_at bits i =
-        λ i lt. sym (ap (λ (bs : List Bool). value_at bs i) made ∙ get_or-map-range_with_len (value_at vs) n 26 i (n + i) false lt refl) in
+    λ i lt. sym (ap (λ (bs : List Bool). value_at bs i) made ∙ get_or-map-range_with_len (value_at vs) n 26 i (n + i) false lt refl) in
     let shown : map (value_at vs) ((n + 16) ∷ (n + 17) ∷ (n + 21) ∷ (n + 25) ∷ []) ≡ results bits =
-        ap₂ ◌∷◌ (at 16 (lit< tt)) (ap₂ ◌∷◌ (at 17 (lit< tt)) (ap₂ ◌∷◌ (at 21 (lit< tt)) (ap₂ ◌∷◌ (at 25 (lit< tt)) refl))) in
+    ap₂ ◌∷◌ (at 16 (lit< tt)) (ap₂ ◌∷◌ (at 17 (lit< tt)) (ap₂ ◌∷◌ (at 21 (lit< tt)) (ap₂ ◌∷◌ (at 25 (lit< tt)) refl))) in
     ap number shown ∙ by_table (value_at vs a) (value_at vs b) (value_at vs c) (value_at vs d)
 sbox-solved vs n xs four s = absurd (omega arith)
 

@@ -1,4 +1,4 @@
-use Rattle.std.proofs.Common.{◌≡◌, ℕ, ◌+◌, ◌-◌, ◌≤◌, Bool, List, [], ◌∷◌, ◌++◌, length, map, All, refl, ap, ap₂, sym, ◌∙◌, subst, arith}
+use Rattle.std.proofs.Common.{◌≡◌, ℕ, ◌+◌, ◌-◌, Bool, List, [], ◌++◌, length, map, All, refl, ap, ap₂, sym, subst, arith}
 use Rattle.std.specs.List.{range_with_len}
 use Rattle.std.proofs.lemmas.List.{length-map}
 use Rattle.mask_circuit.specs.declared.gates.Gate.TheVariants.{Ref}
@@ -31,7 +31,7 @@ returns-in_err-refresh_all-clause-laid c =
 pub out_all-requires-clause-order : goal.out_all-requires-clause-order
 out_all-requires-clause-order c =
     let e = refreshed c.args.b.now c.refresh_all.new.b c.args.values.now c.values-first.result c.values-end.result
-        c.values-first.ensures.count c.values-end.ensures.count c.in_ok-refresh_all.ensures.1 in
+    c.values-first.ensures.count c.values-end.ensures.count c.in_ok-refresh_all.ensures.1 in
     omega arith
 
 pub returns-clause-laid : goal.returns-clause-laid
@@ -44,7 +44,7 @@ returns-clause-laid c =
     let e = refreshed b d us c.values-first.result c.values-end.result c.values-first.ensures.count c.values-end.ensures.count is in
     let many : c.values-end.result - c.values-first.result ≡ length us = omega arith in
     let all : with_outputs d (range_with_len c.values-first.result (c.values-end.result - c.values-first.result)) ≡ with_fence b us =
-        ap₂ with_outputs is (ap₂ range_with_len c.values-first.ensures.count many) in
+    ap₂ with_outputs is (ap₂ range_with_len c.values-first.ensures.count many) in
     Lays-last b d _ (with_fence b us) c.out_all.new.b tt tt c.out_all.result (subst (Grows b) (sym is) (Grows-with_gates b (map Ref us))) all refl c.out_all.ensures
 
 pub returns-clause-plain : goal.returns-clause-plain

@@ -1,4 +1,4 @@
-use Rattle.std.proofs.Common.{◌≡◌, ℕ, suc, ◌+◌, ◌-◌, ◌<◌, ◌≤◌, List, [], ◌∷◌, ◌++◌, Err, Ok, refl, ap, sym, ◌∙◌, subst, arith}
+use Rattle.std.proofs.Common.{◌≡◌, ℕ, suc, ◌+◌, ◌-◌, ◌<◌, [], ◌∷◌, ◌++◌, Err, Ok, refl, ap, sym, ◌∙◌, subst, arith}
 use Rattle.std.specs.List.{range_with_len}
 use Rattle.mask_circuit.specs.Netlist.{Netlist}
 use Rattle.mask_parts.specs.Drafts.{with_outputs, Grows, IsWithinLimits}
@@ -45,6 +45,6 @@ pub returns : goal.returns
 returns c =
     let end : c.args.end - c.loop-value.value ≡ 0 = omega (arith, c.loop-value-test.false) in
     let none : with_outputs c.loop-value.b (range_with_len c.loop-value.value (c.args.end - c.loop-value.value)) ≡ c.loop-value.b =
-        ap (λ (k : ℕ). with_outputs c.loop-value.b (range_with_len c.loop-value.value k)) end ∙ with_outputs-nil c.loop-value.b in
+    ap (λ (k : ℕ). with_outputs c.loop-value.b (range_with_len c.loop-value.value k)) end ∙ with_outputs-nil c.loop-value.b in
     let done = IsUnderWay-done c.args.b.now c.loop-value.b _ _ c.loop-value.invariant none in
     (refl, done.0, done.1)

@@ -1,4 +1,4 @@
-use Rattle.std.proofs.Common.{◌≡◌, ℕ, ◌+◌, ◌<◌, ◌≤◌, List, [], ◌∷◌, ◌++◌, length, map, drop, get_or, Err, Ok, refl, ap, sym, ◌∙◌, subst, arith}
+use Rattle.std.proofs.Common.{◌≡◌, ℕ, ◌+◌, ◌<◌, List, [], ◌∷◌, ◌++◌, length, map, drop, get_or, Err, Ok, refl, ap, sym, ◌∙◌, subst, arith}
 use Rattle.std.proofs.lemmas.List.{drop_more, drop_all}
 use Rattle.mask_circuit.specs.declared.gates.Gate.TheVariants.{Ref}
 use Rattle.mask_circuit.specs.Netlist.{Netlist}
@@ -50,6 +50,6 @@ pub returns : goal.returns
 returns c =
     let us = c.args.values.now in
     let none : with_gates c.loop-value.b (map Ref (drop c.loop-value.value-index us)) ≡ c.loop-value.b =
-        ap (λ (ws : List ℕ). with_gates c.loop-value.b (map Ref ws)) (drop_all c.loop-value.value-index us c.loop-value-test.false) ∙ with_gates-nil c.loop-value.b in
+    ap (λ (ws : List ℕ). with_gates c.loop-value.b (map Ref ws)) (drop_all c.loop-value.value-index us c.loop-value-test.false) ∙ with_gates-nil c.loop-value.b in
     let done = IsUnderWay-done c.args.b.now c.loop-value.b _ _ c.loop-value.invariant none in
     (refl, done.0, done.1)

@@ -30,7 +30,7 @@ returns-clause-laid c =
     let first = Lays-from_gate b (Ref c.args.v) d (Ok c.in_ok-fresh.fresh) (IsWithinLimits-circuit b c.values-first.ensures.circuit) told.made told.full told.same in
     let gate = And c.args.u c.in_ok-fresh.fresh ∷ [] in
     let all : with_gates d gate ≡ with_gates b (product_gates n c.args.u c.args.v) =
-        ap₂ (λ (x : Netlist) (w : ℕ). with_gates x (And c.args.u w ∷ [])) first.1 first.0 ∙ with_gates-with_gates b (Ref c.args.v ∷ []) (And c.args.u n ∷ []) in
+    ap₂ (λ (x : Netlist) (w : ℕ). with_gates x (And c.args.u w ∷ [])) first.1 first.0 ∙ with_gates-with_gates b (Ref c.args.v ∷ []) (And c.args.u n ∷ []) in
     Lays-last b d (with_gates d gate) _ c.and.new.self (value_count d) (n + 1) c.and.result
     (subst (Grows b) (sym first.1) (Grows-with_gates b (Ref c.args.v ∷ []))) all
     (ap value_count first.1 ∙ value_count-with_gates b (Ref c.args.v ∷ []))

@@ -1,4 +1,3 @@
-use Rattle.std.proofs.Common.{List, [], ◌∷◌}
 use Rattle.mask_circuit.specs.declared.gates.Gate.TheVariants.{Xor, Not}
 use Rattle.mask_parts.proofs.Laying.{IsWithinLimits-circuit, Lays-from_gate}
 use Rattle.mask_parts.proofs.tables.lay_step.Goals as goal
