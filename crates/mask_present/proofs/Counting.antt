@@ -17,7 +17,7 @@ use Rattle.mask_parts.specs.Fences.{with_fence}
 use Rattle.mask_parts.specs.PresentSbox.{sbox_gates, with_sbox}
 use Rattle.mask_parts.proofs.Substituting.{length-sbox_gates, products-sbox_gates, refreshes-sbox_gates}
 use Rattle.mask_present.specs.Present.{Register, register}
-use Rattle.mask_present.specs.NamedPresent.{Stage, xor_gates, xored, sboxes, not_gates, counter_values, key_added, block_substituted, block_moved, key_rotated, key_replaced, key_counted, key_updated, block_round, stage_after, rounds, start, encrypted_message, named_of, named_present}
+use Rattle.mask_present.specs.NamedPresent.{Stage, xor_gates, xored, sboxes, not_gates, counter_values, key_added, block_substituted, block_moved, key_rotated, key_replaced, key_counted, key_updated, block_round, stage_after, rounds, start, encrypted_message, named_of, named_present, size_present}
 use Rattle.mask_present.proofs.Fitting.{IsShape, IsShape-register, AllWithin, Fits, length-counter_values, Fits-key_added, Fits-block_substituted, Fits-block_round, Fits-key_rotated, Fits-key_replaced, Fits-nibbles, Fits-stage_after, Fits-rounds, Fits-start}
 
 -- a list of gates has so many gates, products and refreshes
@@ -261,11 +261,6 @@ size-named_of r shape =
     size-with_fence (start r).draft (encrypted_message r) (range_with_len (value_count (rounds r (start r)).draft) 64) _ _ _ 64
         (length-range_with_len (value_count (rounds r (start r)).draft) 64) outputs (Adds-message r shape)
         ∙ same_size _ _ inputs refl (omega arith) (omega arith) (omega arith)
-
--- present-80 and present-128 have so many inputs, outputs, products, refreshes and values
-abbrev pub size_present : KeySize → Size
-size_present K80 = record { inputs = 208; outputs = 64; products = 2635; refreshes = 2699; values = 16_166 }
-size_present K128 = record { inputs = 256; outputs = 64; products = 2790; refreshes = 2854; values = 17_020 }
 
 pub size-named_present : (size : KeySize) → size_of (named_present size) ≡ size_present size
 unfolding named_present

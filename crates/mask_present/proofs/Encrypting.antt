@@ -112,7 +112,7 @@ bits_of-Grows : (c d : Netlist) (x : List Bool) (us : List ℕ) → Grows c d �
 bits_of-Grows c d x us grows long below =
     rw grows.grown (bits_of-with_outputs (with_gates c grows.gates) grows.outputs x us ∙ bits_of-with_gates c grows.gates x us long below)
 
-inputs-Grows : (c d : Netlist) → Grows c d → d.inputs ≡ c.inputs
+pub inputs-Grows : (c d : Netlist) → Grows c d → d.inputs ≡ c.inputs
 unfolding with_gates with_outputs
 inputs-Grows c d grows = ap (λ (n : Netlist). n.inputs) grows.grown
 

@@ -1,4 +1,5 @@
 pub mod Blocks
+pub mod Concluding
 pub mod Counting
 pub mod Encrypting
 pub mod Fitting

@@ -56,7 +56,7 @@ KeepsWith-tidy c d us more below keeps = record {
 
 -- LAYERS
 
-AllTake-xor_gates : (c : Netlist) (us vs : List ℕ) → All (IsReady c) us → All (IsReady c) vs → All (TakesFree c) (xor_gates us vs)
+pub AllTake-xor_gates : (c : Netlist) (us vs : List ℕ) → All (IsReady c) us → All (IsReady c) vs → All (TakesFree c) (xor_gates us vs)
 unfolding xor_gates
 AllTake-xor_gates c [] vs one two = All-nil (TakesFree c)
 AllTake-xor_gates c (u ∷ us) [] one two = All-nil (TakesFree c)
@@ -74,7 +74,7 @@ AllTake-not_gates c (true ∷ bs) (u ∷ us) one =
     All-cons (TakesFree c) (Not u) (not_gates bs us) (TakesFree-not c u first.below first.free) (AllTake-not_gates c bs us (All-tail (IsReady c) u us one))
 AllTake-not_gates c (false ∷ bs) (u ∷ us) one = AllTake-not_gates c bs us (All-tail (IsReady c) u us one)
 
-KeepsWith-layer : (c : Netlist) (gs : List Gate) → Formed (with_gates c gs) → All (TakesFree c) gs → IsTidy c → KeepsWith c (with_gates c gs) (range_with_len (value_count c) (length gs))
+pub KeepsWith-layer : (c : Netlist) (gs : List Gate) → Formed (with_gates c gs) → All (TakesFree c) gs → IsTidy c → KeepsWith c (with_gates c gs) (range_with_len (value_count c) (length gs))
 KeepsWith-layer c gs formed takes tidy =
     let count = value_count-with_gates c gs in
     KeepsWith-tidy c (with_gates c gs) (range_with_len (value_count c) (length gs)) (omega arith)

@@ -2,17 +2,19 @@
 --
 -- A value is named by its number. A register and a block are lists of values, bit 0 first. Each layer appends its gates to
 -- a draft and says which values stand for the register and the block afterwards.
-use Rattle.std.specs.Prelude.{ℕ, zero, suc, ◌+◌, ◌-◌, ◌*◌, ◌%◌, ◌==◌, Bool, true, false, List, [], ◌∷◌, ◌++◌, length, take, drop, map, fold, slice_index, if◌then◌else◌}
+use Rattle.std.specs.Prelude.{ℕ, zero, suc, ◌+◌, ◌-◌, ◌*◌, ◌%◌, ◌==◌, Bool, true, false, List, [], ◌∷◌, ◌++◌, length, take, drop, map, fold, slice_index, bit_xor, if◌then◌else◌}
 use Rattle.std.specs.List.{range_with_len}
-use Rattle.mask_bits.specs.Reading.{lowest}
+use Rattle.mask_bits.specs.Reading.{lowest, number}
 use Rattle.mask_circuit.specs.declared.gates.Gate.{Gate}
 use Rattle.mask_circuit.specs.declared.gates.Gate.TheVariants.{Xor, Not}
 use Rattle.mask_circuit.specs.Netlist.{Netlist, value_count, only_inputs}
+use Rattle.mask_parts.specs.CipherCircuits.{Size}
 use Rattle.mask_parts.specs.Drafts.{with_gates}
 use Rattle.mask_parts.specs.Fences.{with_fence}
 use Rattle.mask_parts.specs.PresentSbox.{sbox_gates, sbox_results, with_sbox}
 use Rattle.mask_tasks.specs.declared.sizes.KeySize.{KeySize}
-use Rattle.mask_present.specs.Present.{Register, register}
+use Rattle.mask_tasks.specs.declared.sizes.KeySize.TheVariants.{K80, K128}
+use Rattle.mask_present.specs.Present.{Register, register, present}
 
 -- a draft, and the values that stand for the key register and for the block
 pub record Stage : Type 0 where
@@ -135,7 +137,7 @@ start r = record {
   block = range_with_len r.width 64;
 }
 
--- the counter block encrypted under the key, xored with the message block
+-- the values of the counter block encrypted under the key, xored with those of the message block
 unfoldable pub encrypted_message : Register → Netlist
 encrypted_message r =
     let s = rounds r (start r) in
@@ -148,3 +150,14 @@ named_of r = with_fence (encrypted_message r) (range_with_len (value_count (roun
 -- present-80 and present-128
 unfoldable pub named_present : KeySize → Netlist
 named_present size = named_of (register size)
+
+-- how many inputs, outputs, products, refreshes and values they have
+abbrev pub size_present : KeySize → Size
+size_present K80 = record { inputs = 208; outputs = 64; products = 2635; refreshes = 2699; values = 16_166 }
+size_present K128 = record { inputs = 256; outputs = 64; products = 2790; refreshes = 2854; values = 17_020 }
+
+-- what they compute of their input bits: PRESENT of the counter block under the key, xored with the message block
+unfoldable pub present_of_bits : KeySize → List Bool → List Bool
+present_of_bits size x =
+    let w = (register size).width in
+    lowest 64 (bit_xor (present size (number (take w x)) (number (take 64 (drop w x)))) (number (take 64 (drop (w + 64) x))))

@@ -3,10 +3,12 @@
 //! `specs/Present.antt` is the cipher on numbers, and `specs/NamedPresent.antt` the circuits gate by gate.
 #![tactic(auto)]
 
+mod circuits;
 mod nibbles;
 mod round;
 mod rounds;
 mod schedule;
 
+pub use circuits::present_circuit;
 pub use mask_tasks::KeySize;
 pub use rounds::present_rounds;
