@@ -1,14 +1,13 @@
 -- A block xored, or passed through the S-boxes, value by value: what is made and what is left.
-use Rattle.std.proofs.Common.{◌≡◌, ℕ, zero, suc, ◌+◌, ◌-◌, ◌*◌, ◌<◌, ◌≤◌, List, [], ◌∷◌, ◌++◌, length, take, drop, get_or, set, All, refl, sym, ap, ap₂, ◌∙◌, subst, arith, add-one}
+use Rattle.std.proofs.Common.{◌≡◌, ℕ, zero, suc, ◌+◌, ◌-◌, ◌*◌, ◌<◌, ◌≤◌, List, [], ◌∷◌, ◌++◌, length, take, drop, get_or, set, refl, sym, ap, ◌∙◌, subst, arith}
 use Rattle.std.specs.List.{range_with_len}
-use Rattle.std.proofs.lemmas.List.{length-set, drop_more, length-append, length-drop, length-take-le, append_assoc, drop-drop, drop_all, take_all, take_at, take_more_set, append-nil}
-use Rattle.std.proofs.lemmas.List.Elements.{All-get_or, All-weaker}
+use Rattle.std.proofs.lemmas.List.{length-set, drop_more, length-append, length-take-le, append_assoc, drop-drop, drop_all, take_all, take_at, take_more_set, append-nil}
 use Rattle.mask_circuit.specs.declared.gates.Gate.{Gate}
 use Rattle.mask_circuit.specs.declared.gates.Gate.TheVariants.{Xor}
 use Rattle.mask_circuit.specs.Netlist.{Netlist, value_count}
 use Rattle.mask_parts.specs.Drafts.{with_gates, Grows, IsWithinLimits}
 use Rattle.mask_parts.specs.PresentSbox.{sbox_gates, sbox_results, with_sbox}
-use Rattle.mask_parts.proofs.Growing.{value_count-with_gates, value_count-Grows, with_gates-nil, with_gates-with_gates, Grows-refl, Grows-trans, Grows-with_gates}
+use Rattle.mask_parts.proofs.Growing.{value_count-with_gates, with_gates-nil, with_gates-with_gates, Grows-refl, Grows-trans, Grows-with_gates}
 use Rattle.mask_present.proofs.Fitting.{length-with_stretch, length-sbox_results}
 use Rattle.mask_present.proofs.Tidying.{count-with_sbox}
 use Rattle.mask_present.specs.NamedPresent.{xor_gates, xored, sboxes, sboxes_results, with_stretch}
@@ -70,7 +69,7 @@ pub HasXored-all : (before c : Netlist) (us vs sums : List ℕ) → length us �
 unfolding xor_gates
 HasXored-all before c us vs sums one two k end has =
     let none : with_gates c (xor_gates (drop k us) (drop k vs)) ≡ c =
-        rw (drop_all k us (omega arith)) (with_gates-nil c) in
+    rw (drop_all k us (omega arith)) (with_gates-nil c) in
     let whole : c ≡ xored before us vs = sym none ∙ has.left in
     (sym (take_all k sums (let long = has.long in omega arith)) ∙ has.summed ∙ ap (range_with_len (value_count before)) end, whole, subst IsWithinLimits whole has.within)
 
@@ -118,8 +117,8 @@ module _ (before c : Netlist) (us results : List ℕ) (g : ℕ) (long_us : lengt
       let more : 16 - g ≡ suc (16 - (g + 1)) = omega arith in
       let next : drop 4 (drop (4 * g) us) ≡ drop (4 * (g + 1)) us = drop-drop 4 (4 * g) us ∙ ap (λ n. drop n us) (omega arith) in
       with_gates-with_gates c (sbox_gates (value_count c) nibble_of) rest
-          ∙ ap (λ (zs : List ℕ). with_gates c (sbox_gates (value_count c) nibble_of ++ sboxes (16 - (g + 1)) (value_count c + 26) zs)) (sym next)
-          ∙ ap (λ m. with_gates c (sboxes m (value_count c) (drop (4 * g) us))) (sym more) ∙ has.left
+      ∙ ap (λ (zs : List ℕ). with_gates c (sbox_gates (value_count c) nibble_of ++ sboxes (16 - (g + 1)) (value_count c + 26) zs)) (sym next)
+      ∙ ap (λ m. with_gates c (sboxes m (value_count c) (drop (4 * g) us))) (sym more) ∙ has.left
 
   pub rest-sbox : Grows (with_sbox c nibble_of) (with_gates before (sboxes 16 (value_count before) us))
   rest-sbox = subst (Grows (with_sbox c nibble_of)) left-sbox (Grows-with_gates (with_sbox c nibble_of) rest)
@@ -142,7 +141,7 @@ module _ (before c : Netlist) (us results : List ℕ) (g : ℕ) (long_us : lengt
 
 pub HasSubstituted-all : (before c : Netlist) (us results : List ℕ) (g : ℕ) → g ≡ 16 → HasSubstituted before c us results g
     → (results ≡ sboxes_results 16 (value_count before)) × (c ≡ with_gates before (sboxes 16 (value_count before) us))
-        × IsWithinLimits (with_gates before (sboxes 16 (value_count before) us))
+    × IsWithinLimits (with_gates before (sboxes 16 (value_count before) us))
 HasSubstituted-all before c us results g end has =
     let no_more : 16 - g ≡ 0 = omega arith in
     let none : with_gates c (sboxes (16 - g) (value_count c) (drop (4 * g) us)) ≡ c = rw no_more (unfold sboxes in with_gates-nil c) in

@@ -1,14 +1,13 @@
 -- How many values, products and refreshes the circuits have.
-use Rattle.std.proofs.Common.{◌≡◌, ℕ, zero, suc, ◌+◌, ◌-◌, ◌*◌, ◌<◌, ◌≤◌, Bool, true, false, cond, List, [], ◌∷◌, ◌++◌, length, take, drop, map, refl, sym, ap, ◌∙◌, arith, length-append, length-drop, fold}
-use Rattle.std.proofs.lemmas.List.{length-map, length-take-le}
+use Rattle.std.proofs.Common.{◌≡◌, ℕ, zero, suc, ◌+◌, ◌-◌, ◌*◌, Bool, true, false, cond, List, [], ◌∷◌, ◌++◌, length, take, drop, map, refl, sym, ap, ◌∙◌, arith, length-append, length-drop, fold}
 use Rattle.std.proofs.lemmas.List.Sums.{sum_by-append, sum_by-cons}
 use Rattle.std.proofs.lemmas.List.FromFn.{length-range_with_len}
 use Rattle.std.specs.List.{range_with_len, count_by}
 use Rattle.mask_bits.specs.Reading.{lowest}
 use Rattle.mask_bits.proofs.Numbers.{length-lowest}
 use Rattle.mask_circuit.specs.declared.gates.Gate.{Gate}
-use Rattle.mask_circuit.specs.declared.gates.Gate.TheVariants.{Zero, One, Xor, Not, And, Ref}
-use Rattle.mask_circuit.specs.Netlist.{Netlist, value_count, product_count, refresh_count, is_product, is_refresh, only_inputs}
+use Rattle.mask_circuit.specs.declared.gates.Gate.TheVariants.{Xor, Not, Ref}
+use Rattle.mask_circuit.specs.Netlist.{Netlist, value_count, product_count, refresh_count, is_product, is_refresh}
 use Rattle.mask_tasks.specs.declared.sizes.KeySize.{KeySize}
 use Rattle.mask_tasks.specs.declared.sizes.KeySize.TheVariants.{K80, K128}
 use Rattle.mask_parts.specs.CipherCircuits.{Size, size_of}
@@ -18,7 +17,7 @@ use Rattle.mask_parts.specs.PresentSbox.{sbox_gates, with_sbox}
 use Rattle.mask_parts.proofs.Substituting.{length-sbox_gates, products-sbox_gates, refreshes-sbox_gates}
 use Rattle.mask_present.specs.Present.{Register, register}
 use Rattle.mask_present.specs.NamedPresent.{Stage, xor_gates, xored, sboxes, not_gates, counter_values, key_added, block_substituted, block_moved, key_rotated, key_replaced, key_counted, key_updated, block_round, stage_after, rounds, start, encrypted_message, named_of, named_present, size_present}
-use Rattle.mask_present.proofs.Fitting.{IsShape, IsShape-register, AllWithin, Fits, length-counter_values, Fits-key_added, Fits-block_substituted, Fits-block_round, Fits-key_rotated, Fits-key_replaced, Fits-nibbles, Fits-stage_after, Fits-rounds, Fits-start}
+use Rattle.mask_present.proofs.Fitting.{IsShape, IsShape-register, Fits, length-counter_values, Fits-block_round, Fits-key_rotated, Fits-nibbles, Fits-stage_after, Fits-rounds, Fits-start}
 
 -- a list of gates has so many gates, products and refreshes
 pub record Counts (gs : List Gate) (v p f : ℕ) : Type 0 where
@@ -133,7 +132,7 @@ Adds-nibbles : (ats : List ℕ) (s : Stage) → Adds s.draft (fold key_replaced 
 Adds-nibbles [] s = Adds-refl s.draft
 Adds-nibbles (at ∷ ats) s =
     Adds-as _ _ _ _ _ _ _ _ (omega arith) (omega arith) (omega arith)
-        (Adds-trans s.draft (key_replaced s at).draft (fold key_replaced (key_replaced s at) ats).draft _ _ _ _ _ _ (Adds-key_replaced s at) (Adds-nibbles ats (key_replaced s at)))
+    (Adds-trans s.draft (key_replaced s at).draft (fold key_replaced (key_replaced s at) ats).draft _ _ _ _ _ _ (Adds-key_replaced s at) (Adds-nibbles ats (key_replaced s at)))
 
 Adds-key_counted : (r : Register) (i : ℕ) (s : Stage) → IsShape r → Fits r s → Adds s.draft (key_counted r i s).draft (ones (lowest 5 i)) 0 0
 unfolding key_counted
@@ -148,7 +147,7 @@ Adds-key_updated r i s shape fits =
     let turned = key_rotated r s in
     let replaced : Fits r (fold key_replaced turned r.nibbles) = Fits-nibbles r r.nibbles turned shape.nibbles (Fits-key_rotated r s shape fits) in
     Adds-as _ _ _ _ _ _ _ _ refl (omega arith) (omega arith)
-        (Adds-trans s.draft (fold key_replaced turned r.nibbles).draft _ _ _ _ _ _ _ (Adds-nibbles r.nibbles turned) (Adds-key_counted r i _ shape replaced))
+    (Adds-trans s.draft (fold key_replaced turned r.nibbles).draft _ _ _ _ _ _ _ (Adds-nibbles r.nibbles turned) (Adds-key_counted r i _ shape replaced))
 
 Adds-block_round : (r : Register) (s : Stage) → IsShape r → Fits r s → Adds s.draft (block_round r s).draft 480 80 80
 unfolding block_round block_moved
@@ -172,7 +171,7 @@ Adds-stage_after r (suc i) s shape fits =
     let before = stage_after r i s in
     let fits_before : Fits r before = Fits-stage_after r i s shape fits in
     let round = Adds-trans before.draft (block_round r before).draft _ _ _ _ _ _ _ (Adds-block_round r before shape fits_before)
-        (Adds-key_updated r (suc i) (block_round r before) shape (Fits-block_round r before fits_before)) in
+    (Adds-key_updated r (suc i) (block_round r before) shape (Fits-block_round r before fits_before)) in
     Adds-trans s.draft before.draft _ _ _ _ _ _ _ (Adds-stage_after r i s shape fits) round
 
 pub Adds-rounds : (r : Register) (s : Stage) → IsShape r → Fits r s
@@ -181,7 +180,7 @@ unfolding rounds
 Adds-rounds r s shape fits =
     let before = stage_after r 31 s in
     Adds-as _ _ _ _ _ _ _ _ refl (omega arith) (omega arith)
-        (Adds-trans s.draft before.draft _ _ _ _ _ _ _ (Adds-stage_after r 31 s shape fits) (Adds-key_added r before shape (Fits-stage_after r 31 s shape fits)))
+    (Adds-trans s.draft before.draft _ _ _ _ _ _ _ (Adds-stage_after r 31 s shape fits) (Adds-key_added r before shape (Fits-stage_after r 31 s shape fits)))
 
 -- 31 rounds of both sizes
 values_80 : values_of_rounds 1 31 ≡ 15766
@@ -219,8 +218,8 @@ Adds-message r shape =
     let block = (Fits-rounds r (start r) shape (Fits-start r)).block in
     let same : length end.block ≡ length (range_with_len (r.width + 64) 64) = block ∙ sym (length-range_with_len (r.width + 64) 64) in
     Adds-as _ _ _ _ _ _ _ _ refl (omega arith) (omega arith)
-        (Adds-trans (start r).draft end.draft (encrypted_message r) _ _ _ _ _ _ (Adds-rounds r (start r) shape (Fits-start r))
-            (Adds-with_gates end.draft _ 64 0 0 (rw block at (Counts-xor_gates end.block (range_with_len (r.width + 64) 64) same))))
+    (Adds-trans (start r).draft end.draft (encrypted_message r) _ _ _ _ _ _ (Adds-rounds r (start r) shape (Fits-start r))
+    (Adds-with_gates end.draft _ 64 0 0 (rw block at (Counts-xor_gates end.block (range_with_len (r.width + 64) 64) same))))
 
 -- sizes are equal by their parts
 same_size : (a b : Size) → a.inputs ≡ b.inputs → a.outputs ≡ b.outputs → a.products ≡ b.products → a.refreshes ≡ b.refreshes → a.values ≡ b.values → a ≡ b
@@ -240,7 +239,7 @@ size-with_fence d c us v p f n long none adds =
     let fenced = Adds-with_gates c (map Ref us) _ _ _ (Counts-refreshes us) in
     let values = adds.values in let products = adds.products in let refreshes = adds.refreshes in
     same_size _ _ (fenced.inputs ∙ adds.inputs) (rw (fenced.outputs, adds.outputs, none) (length-range_with_len _ (length us) ∙ long))
-        (fenced.products ∙ omega arith) (fenced.refreshes ∙ omega arith) (fenced.values ∙ omega arith)
+    (fenced.products ∙ omega arith) (fenced.refreshes ∙ omega arith) (fenced.values ∙ omega arith)
 
 -- the whole circuit
 size-named_of : (r : Register) → IsShape r
@@ -259,8 +258,8 @@ size-named_of r shape =
     let products : product_count (start r).draft ≡ 0 = unfold start in refl in
     let refreshes : refresh_count (start r).draft ≡ 0 = unfold start in refl in
     size-with_fence (start r).draft (encrypted_message r) (range_with_len (value_count (rounds r (start r)).draft) 64) _ _ _ 64
-        (length-range_with_len (value_count (rounds r (start r)).draft) 64) outputs (Adds-message r shape)
-        ∙ same_size _ _ inputs refl (omega arith) (omega arith) (omega arith)
+    (length-range_with_len (value_count (rounds r (start r)).draft) 64) outputs (Adds-message r shape)
+    ∙ same_size _ _ inputs refl (omega arith) (omega arith) (omega arith)
 
 pub size-named_present : (size : KeySize) → size_of (named_present size) ≡ size_present size
 unfolding named_present

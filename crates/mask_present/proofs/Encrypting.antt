@@ -1,23 +1,21 @@
 -- The rounds on values, as calls lay them one after another, and what they compute and keep.
-use Rattle.std.proofs.Common.{◌≡◌, ℕ, zero, suc, ◌+◌, ◌-◌, ◌<◌, ◌≤◌, Bool, List, [], ◌∷◌, length, map, All, refl, sym, ap, ap₂, ◌∙◌, subst, arith, add-one, fold}
-use Rattle.std.proofs.lemmas.List.Elements.{All-nil}
+use Rattle.std.proofs.Common.{◌≡◌, ℕ, suc, ◌+◌, ◌-◌, ◌<◌, ◌≤◌, Bool, List, [], ◌∷◌, length, All, refl, sym, ap, ◌∙◌, subst, arith, add-one, fold}
 use Rattle.mask_bits.specs.Reading.{number}
-use Rattle.mask_circuit.specs.Netlist.{Netlist, IsCircuit, AreGates, value_count}
-use Rattle.mask_circuit.specs.Value.{value_at, plain_values}
+use Rattle.mask_circuit.specs.Netlist.{Netlist}
+use Rattle.mask_circuit.specs.Value.{plain_values}
 use Rattle.mask_circuit.specs.Acceptance.{IsTidy}
 use Rattle.mask_tasks.specs.declared.sizes.KeySize.{KeySize}
 use Rattle.mask_parts.specs.Drafts.{with_gates, with_outputs, bits_of, Grows, IsWithinLimits}
 use Rattle.mask_parts.specs.Tidiness.{IsFree, KeepsTidy}
-use Rattle.mask_parts.proofs.Growing.{Grows-refl, Grows-trans}
+use Rattle.mask_parts.proofs.Growing.{Grows-trans}
 use Rattle.mask_parts.proofs.Solving.{Solves-all, bits_of-with_gates, bits_of-with_outputs}
-use Rattle.mask_present.specs.Present.{Register, register, encrypted, present}
+use Rattle.mask_present.specs.Present.{Register, register, present}
 use Rattle.mask_present.specs.NamedPresent.{Stage, stage, key_added, block_substituted, block_moved, key_rotated, key_replaced, key_counted, key_updated, block_round, stage_after, rounds}
-use Rattle.mask_present.proofs.Fitting.{IsShape, IsShape-register, Fits, Fits-stage_after}
-use Rattle.mask_present.proofs.Holding.{Holds}
+use Rattle.mask_present.proofs.Fitting.{IsShape-register, Fits, Fits-stage_after}
 use Rattle.mask_present.proofs.Knowing.{Below, Known, Known-block_round, Known-stage_after}
-use Rattle.mask_present.proofs.Lengthening.{Lengthens-key_added, Lengthens-block_round, Lengthens-key_updated, Lengthens-more, Lengthens-rounds}
+use Rattle.mask_present.proofs.Lengthening.{Lengthens-block_round, Lengthens-key_updated, Lengthens-more, Lengthens-rounds}
 use Rattle.mask_present.proofs.Showing.{Solved, Shows, Shows-rounds}
-use Rattle.mask_present.proofs.Tidying.{Formed, Formed-Grows, IsReady, Steady, Steadies-rounds}
+use Rattle.mask_present.proofs.Tidying.{Formed, Steady, Steadies-rounds}
 
 -- STAGES
 
@@ -90,7 +88,7 @@ pub after-block : (r : Register) (c d : Netlist) (key block now : List ℕ) (s :
 unfolding stage
 after-block r c d key block now s is draft block_is =
     rw (draft, block_is) (ap (λ (ks : List ℕ). stage (block_round r (stage c key block)).draft ks (block_round r (stage c key block)).block) (sym (key-block_round r (stage c key block)))
-        ∙ ap (block_round r) is)
+    ∙ ap (block_round r) is)
 
 pub HasRun-more : (r : Register) (before : Stage) (c d e : Netlist) (key block now later : List ℕ) (i : ℕ) → HasRun r before c key block i
     → d ≡ (block_round r (stage c key block)).draft → now ≡ (block_round r (stage c key block)).block
@@ -196,10 +194,10 @@ module _ (size : KeySize) (before : Stage) (c : Netlist) (key block : List ℕ) 
   unfolding stage
   left-update_run few d now draft block_is =
       let round : stage d key now ≡ block_round (register size) (stage_after (register size) i before) =
-          after-block (register size) c d key block now (stage_after (register size) i before) has.is draft block_is in
+      after-block (register size) c d key block now (stage_after (register size) i before) has.is draft block_is in
       subst (λ (s : Stage). Grows s.draft (rounds (register size) before).draft)
-          (sym (sym (key_updated-block (register size) (i + 1) d key now) ∙ ap (key_updated (register size) (i + 1)) round))
-          (left-update (register size) i before few)
+      (sym (sym (key_updated-block (register size) (i + 1) d key now) ∙ ap (key_updated (register size) (i + 1)) round))
+      (left-update (register size) i before few)
 
   -- the last round key makes the whole
   pub whole-run : i ≡ 31 → key_added (register size) (stage c key block) ≡ rounds (register size) before

@@ -1,10 +1,8 @@
 -- The register and the block keep their lengths through the rounds.
-use Rattle.std.proofs.Common.{◌≡◌, ℕ, zero, suc, ◌+◌, ◌-◌, ◌*◌, ◌<◌, ◌≤◌, Bool, true, false, List, [], ◌∷◌, ◌++◌, length, take, drop, map, refl, sym, ap, ◌∙◌, arith, lit<, lit≤, length-append, length-drop, fold, slice_index}
+use Rattle.std.proofs.Common.{◌≡◌, ℕ, zero, suc, ◌+◌, ◌-◌, ◌*◌, ◌≤◌, Bool, true, false, List, [], ◌∷◌, ◌++◌, length, take, drop, refl, ◌∙◌, arith, lit≤, length-append, length-drop, fold, slice_index}
 use Rattle.std.proofs.lemmas.List.{length-take, length-take-le}
-use Rattle.std.specs.List.{range_with_len, All}
 use Rattle.std.proofs.lemmas.List.FromFn.{length-range_with_len, length-map-range_with_len}
 use Rattle.mask_bits.specs.Reading.{lowest}
-use Rattle.mask_bits.proofs.Numbers.{length-lowest}
 use Rattle.mask_tasks.specs.declared.sizes.KeySize.{KeySize}
 use Rattle.mask_tasks.specs.declared.sizes.KeySize.TheVariants.{K80, K128}
 use Rattle.mask_circuit.specs.Netlist.{value_count}
@@ -35,8 +33,12 @@ pub record Fits (r : Register) (s : Stage) : Type 0 where
 pub length-with_stretch : {A : Type 0} (at : ℕ) (us xs : List A) → at + length us ≤ length xs → length (with_stretch at us xs) ≡ length xs
 unfolding with_stretch
 length-with_stretch at us xs within =
-    rw (length-append (take at xs) (us ++ drop (at + length us) xs), length-append us (drop (at + length us) xs), length-drop (at + length us) xs,
-        length-take-le at xs (omega arith)) (omega arith)
+    rw (
+      length-append (take at xs) (us ++ drop (at + length us) xs),
+      length-append us (drop (at + length us) xs),
+      length-drop (at + length us) xs,
+      length-take-le at xs (omega arith),
+    ) (omega arith)
 
 pub length-sbox_results : (n : ℕ) → length (sbox_results n) ≡ 4
 unfolding sbox_results

@@ -1,9 +1,9 @@
 -- What holds of each value of a stage: how it passes through the layers.
-use Rattle.std.proofs.Common.{◌≡◌, ℕ, zero, suc, ◌+◌, ◌-◌, ◌*◌, ◌<◌, ◌≤◌, Bool, true, false, List, [], ◌∷◌, ◌++◌, length, take, drop, map, All, refl, sym, ap, ◌∙◌, arith, lit<, lit≤, fold, slice_index}
+use Rattle.std.proofs.Common.{◌≡◌, ℕ, zero, suc, ◌+◌, ◌-◌, ◌*◌, ◌<◌, ◌≤◌, Bool, true, false, List, [], ◌∷◌, ◌++◌, length, take, drop, All, arith, slice_index}
 use Rattle.std.specs.List.{range_with_len}
 use Rattle.std.proofs.lemmas.List.Elements.{All-nil, All-cons, All-head, All-tail, All-append, All-take, All-drop, All-map, All-weaker, All-get_or}
 use Rattle.mask_bits.specs.Reading.{lowest}
-use Rattle.mask_circuit.specs.Netlist.{Netlist, value_count}
+use Rattle.mask_circuit.specs.Netlist.{value_count}
 use Rattle.mask_parts.specs.PresentSbox.{sbox_results}
 use Rattle.mask_present.specs.Present.{Register}
 use Rattle.mask_present.specs.NamedPresent.{Stage, sboxes_results, source, moved, with_stretch, not_gates, not_results, counter_values, key_added, block_substituted, block_moved, key_rotated, key_replaced, key_counted}
@@ -23,7 +23,7 @@ pub All-sbox_results : (P : ℕ → Type 0) (n : ℕ) → P (n + 16) → P (n + 
 unfolding sbox_results
 All-sbox_results P n a b c d =
     All-cons P (n + 16) ((n + 17) ∷ ((n + 21) ∷ ((n + 25) ∷ []))) a (All-cons P (n + 17) ((n + 21) ∷ ((n + 25) ∷ [])) b
-        (All-cons P (n + 21) ((n + 25) ∷ []) c (All-cons P (n + 25) [] d (All-nil P))))
+    (All-cons P (n + 21) ((n + 25) ∷ []) c (All-cons P (n + 25) [] d (All-nil P))))
 
 pub All-sboxes_results : (P : ℕ → Type 0) (m n : ℕ) → ((j : ℕ) → j < m → All P (sbox_results (n + 26 * j))) → All P (sboxes_results m n)
 unfolding sboxes_results
@@ -31,7 +31,7 @@ All-sboxes_results P zero n new = All-nil P
 All-sboxes_results P (suc m) n new =
     let here : n + 26 * 0 ≡ n = omega arith in
     let later : (j : ℕ) → j < m → All P (sbox_results (n + 26 + 26 * j)) =
-        λ j h. let e : n + 26 * suc j ≡ n + 26 + 26 * j = omega arith in rw e at (new (suc j) (omega arith)) in
+    λ j h. let e : n + 26 * suc j ≡ n + 26 + 26 * j = omega arith in rw e at (new (suc j) (omega arith)) in
     All-append P (sbox_results n) (sboxes_results m (n + 26)) (rw here at (new 0 (omega arith))) (All-sboxes_results P m (n + 26) later)
 
 -- the value that comes to a place
@@ -42,13 +42,13 @@ pub All-moved : (P : ℕ → Type 0) (us : List ℕ) → length us ≡ 64 → Al
 unfolding moved
 All-moved P us long holds =
     All-map P (λ i. slice_index us (source i)) (range_with_len 0 64)
-        (λ k d h. at_source P us long holds _)
+    (λ k d h. at_source P us long holds _)
 
 pub All-with_stretch : (P : ℕ → Type 0) (at : ℕ) (us xs : List ℕ) → All P us → All P xs → All P (with_stretch at us xs)
 unfolding with_stretch
 All-with_stretch P at us xs one two =
     All-append P (take at xs) (us ++ drop (at + length us) xs) (All-take P at xs two)
-        (All-append P us (drop (at + length us) xs) one (All-drop P (at + length us) xs two))
+    (All-append P us (drop (at + length us) xs) one (All-drop P (at + length us) xs two))
 
 All-not_results : (P : ℕ → Type 0) (n : ℕ) (bs : List Bool) (us : List ℕ) → ((u : ℕ) → n ≤ u → u < n + length (not_gates bs us) → P u) → All P us → All P (not_results n bs us)
 unfolding not_gates not_results
@@ -56,7 +56,7 @@ All-not_results P n [] us new holds = holds
 All-not_results P n (b ∷ bs) [] new holds = All-nil P
 All-not_results P n (true ∷ bs) (u ∷ us) new holds =
     All-cons P n (not_results (n + 1) bs us) (new n (omega arith) (omega arith))
-        (All-not_results P (n + 1) bs us (λ v low high. new v (omega arith) (omega arith)) (All-tail P u us holds))
+    (All-not_results P (n + 1) bs us (λ v low high. new v (omega arith) (omega arith)) (All-tail P u us holds))
 All-not_results P n (false ∷ bs) (u ∷ us) new holds =
     All-cons P u (not_results n bs us) (All-head P u us holds) (All-not_results P n bs us new (All-tail P u us holds))
 

@@ -1,15 +1,14 @@
 -- The values of a stage are values of its draft.
-use Rattle.std.proofs.Common.{◌≡◌, ℕ, zero, suc, ◌+◌, ◌*◌, ◌<◌, ◌≤◌, List, [], ◌∷◌, ◌++◌, length, take, drop, All, refl, arith, lit<, fold}
+use Rattle.std.proofs.Common.{◌≡◌, ℕ, zero, suc, ◌+◌, ◌*◌, ◌<◌, ◌≤◌, List, [], ◌∷◌, length, All, arith, fold}
 use Rattle.mask_circuit.specs.Netlist.{Netlist, value_count}
-use Rattle.mask_parts.specs.Drafts.{with_gates, Grows}
-use Rattle.mask_parts.specs.PresentSbox.{sbox_results, with_sbox}
-use Rattle.mask_parts.specs.Tables.{with_part}
+use Rattle.mask_parts.specs.Drafts.{Grows}
+use Rattle.mask_parts.specs.PresentSbox.{sbox_results}
 use Rattle.mask_parts.proofs.Growing.{value_count-Grows, value_count-with_gates}
 use Rattle.mask_bits.specs.Reading.{lowest}
 use Rattle.mask_present.specs.Present.{Register}
-use Rattle.mask_present.specs.NamedPresent.{Stage, xored, not_gates, counter_values, key_added, block_substituted, block_moved, key_rotated, key_replaced, key_counted, key_updated, block_round, stage_after, rounds, start}
+use Rattle.mask_present.specs.NamedPresent.{Stage, not_gates, counter_values, key_added, block_substituted, block_moved, key_rotated, key_replaced, key_counted, key_updated, block_round, stage_after, rounds, start}
 use Rattle.mask_present.proofs.Counting.{Adds-key_added, Adds-block_substituted, Adds-key_replaced}
-use Rattle.mask_present.proofs.Fitting.{IsShape, Fits, Fits-key_added, Fits-block_substituted, Fits-block_round, Fits-stage_after}
+use Rattle.mask_present.proofs.Fitting.{IsShape, Fits, Fits-key_added, Fits-block_substituted, Fits-stage_after}
 use Rattle.mask_present.proofs.Holding.{Holds, All-range, All-sbox_results, All-sboxes_results, Holds-key_added, Holds-block_substituted, Holds-block_moved, Holds-key_rotated, Holds-key_replaced, Holds-key_counted}
 use Rattle.mask_present.proofs.Lengthening.{Lengthens-key_added, Lengthens-block_substituted, Lengthens-key_replaced, Lengthens-key_counted}
 
@@ -40,7 +39,7 @@ Known-block_substituted s known =
     record {
       values = Holds-block_substituted (Below s.draft) (Below (block_substituted s).draft) s (Below-Grows _ _ (Lengthens-block_substituted s)) known.values
           (All-sboxes_results (Below (block_substituted s).draft) 16 (value_count s.draft)
-              (λ j low. All-Below-sbox (block_substituted s).draft (value_count s.draft + 26 * j) (omega arith)));
+          (λ j low. All-Below-sbox (block_substituted s).draft (value_count s.draft + 26 * j) (omega arith)));
     }
 
 pub Known-block_moved : (r : Register) (s : Stage) → Fits r s → Known s → Known (block_moved s)
@@ -51,7 +50,7 @@ unfolding block_round
 Known-block_round r s shape fits known =
     let added = Fits-key_added r s fits in
     Known-block_moved r (block_substituted (key_added r s)) (Fits-block_substituted r (key_added r s) added)
-        (Known-block_substituted (key_added r s) (Known-key_added r s shape fits known))
+    (Known-block_substituted (key_added r s) (Known-key_added r s shape fits known))
 
 pub Known-key_rotated : (r : Register) (s : Stage) → Known s → Known (key_rotated r s)
 Known-key_rotated r s known = record { values = unfold key_rotated in Holds-key_rotated (Below s.draft) r s known.values }

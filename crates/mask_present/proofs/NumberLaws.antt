@@ -1,9 +1,8 @@
 -- The number of a list of bits: of parts of it, of an XOR, of a rotation.
-use Rattle.std.proofs.Common.{◌≡◌, ℕ, zero, suc, ◌+◌, ◌-◌, ◌*◌, ◌/◌, ◌%◌, ◌^◌, ◌<◌, ◌≤◌, Bool, true, false, List, [], ◌∷◌, ◌++◌, length, take, drop, refl, sym, ap, ◌∙◌, arith, lit<, if◌then◌else◌, bit_xor}
-use Rattle.std.proofs.Math.Nat.{pow-suc, mul_comm}
+use Rattle.std.proofs.Common.{◌≡◌, ℕ, ◌+◌, ◌*◌, ◌/◌, ◌%◌, ◌^◌, ◌<◌, ◌≤◌, Bool, true, false, List, [], ◌∷◌, ◌++◌, length, take, drop, refl, sym, ap, ◌∙◌, arith, lit<, if◌then◌else◌, bit_xor}
 use Rattle.std.proofs.lemmas.Nat.{pow_pos, div-mul-add, mod-mul-add, xor_block, pow-add}
-use Rattle.std.specs.Int.Bits.{xor_zero_l, xor_zero_r}
-use Rattle.std.proofs.lemmas.List.{length-take-le, length-drop, length-take, take-append-drop, drop-drop}
+use Rattle.std.specs.Int.Bits.{xor_zero_r}
+use Rattle.std.proofs.lemmas.List.{length-take-le, length-drop, take-append-drop, drop-drop}
 use Rattle.mask_circuit.specs.Value.{xor}
 use Rattle.mask_bits.specs.Reading.{number}
 use Rattle.mask_present.specs.NamedPresent.{with_stretch}
@@ -73,8 +72,15 @@ number-stretch a b ys bits long within =
     let low : a ≤ length bits = omega arith in
     let count : length (take a bits) ≡ a = length-take-le a bits low in
     let power : 2 ^ (a + b) ≡ 2 ^ a * 2 ^ b = pow-add 2 a b in
-    rw (number-append (take a bits) (ys ++ drop (a + length ys) bits), count, number-append ys (drop (a + length ys) bits), long,
-        number-take a bits low, number-drop (a + b) bits within, power) (regroup (2 ^ a) (2 ^ b) _ _ _)
+    rw (
+      number-append (take a bits) (ys ++ drop (a + length ys) bits),
+      count,
+      number-append ys (drop (a + length ys) bits),
+      long,
+      number-take a bits low,
+      number-drop (a + b) bits within,
+      power,
+    ) (regroup (2 ^ a) (2 ^ b) _ _ _)
 
 -- the bits from place a on
 pub number-between : (a b : ℕ) (bits : List Bool) → a + b ≤ length bits → number (take b (drop a bits)) ≡ number bits / 2 ^ a % 2 ^ b
@@ -103,11 +109,11 @@ number-xor_stretch a b i ys bits long within small shown =
     let rest : b ≤ length (drop a bits) = rw (length-drop a bits) (omega arith) in
     let count : length (take a bits) ≡ a = length-take-le a bits low in
     let number_left : number (take a bits ++ (ys ++ drop (a + b) bits)) ≡ number (take a bits) + 2 ^ a * (number ys + 2 ^ b * number (drop (a + b) bits)) =
-        rw (number-append (take a bits) (ys ++ drop (a + b) bits), count, number-append ys (drop (a + b) bits), long) refl in
+    rw (number-append (take a bits) (ys ++ drop (a + b) bits), count, number-append ys (drop (a + b) bits), long) refl in
     let high : drop b (drop a bits) ≡ drop (a + b) bits = drop-drop b a bits in
     let inner : bit_xor (number (drop a bits)) i ≡ number (drop (a + b) bits) * 2 ^ b + number ys =
-        xor-low_part b (number (drop a bits)) _ _ i (rw high at (number-split b (drop a bits) rest)) (number_take-lt b (drop a bits) rest) small
-            ∙ rw shown refl in
+    xor-low_part b (number (drop a bits)) _ _ i (rw high at (number-split b (drop a bits) rest)) (number_take-lt b (drop a bits) rest) small
+    ∙ rw shown refl in
     let outer : bit_xor (number bits) (i * 2 ^ a) ≡ bit_xor (number (drop a bits)) i * 2 ^ a + number (take a bits) =
-        xor-high_part a (number bits) _ _ i (number-split a bits low) (number_take-lt a bits low) in
+    xor-high_part a (number bits) _ _ i (number-split a bits low) (number_take-lt a bits low) in
     rw (long, number_left, outer, inner) (omega arith)

@@ -1,5 +1,5 @@
 -- The layer of bits on numbers and on lists of bits.
-use Rattle.std.proofs.Common.{◌≡◌, ℕ, zero, suc, ◌+◌, ◌*◌, ◌%◌, ◌^◌, ◌<◌, Bool, true, false, ◌==◌, List, [], ◌∷◌, length, map, get_or, refl, sym, ap, ◌∙◌, arith, lit<, if◌then◌else◌, sum_by}
+use Rattle.std.proofs.Common.{◌≡◌, ℕ, zero, suc, ◌+◌, ◌*◌, ◌%◌, ◌^◌, ◌<◌, Bool, true, false, ◌==◌, List, map, get_or, refl, sym, ap, ◌∙◌, arith, lit<, if◌then◌else◌, sum_by}
 use Rattle.std.specs.Int.{bit_at}
 use Rattle.std.specs.List.{range_with_len}
 use Rattle.std.proofs.lemmas.List.Sums.{sum_by-cons}
@@ -47,6 +47,6 @@ unfolding permuted
 permuted-number bits =
     let weight : ℕ → ℕ = λ j. if get_or bits j false then 1 else 0 in
     let same : (j : ℕ) → bit_at (number bits) j * 2 ^ place j ≡ weight j * 2 ^ place j =
-        λ j. ap (λ b. b * 2 ^ place j) (sym (worth j (number bits)) ∙ ap (λ (b : Bool). if b then 1 else 0) (bit-number bits j)) in
+    λ j. ap (λ b. b * 2 ^ place j) (sym (worth j (number bits)) ∙ ap (λ (b : Bool). if b then 1 else 0) (bit-number bits j)) in
     sum_by-range (λ j. bit_at (number bits) j * 2 ^ place j) 0 64 ∙ sum_by-same _ (λ j. weight j * 2 ^ place j) 0 64 same ∙ spread weight
-        ∙ sym (number-digits (λ i. get_or bits (source i) false) 0 64)
+    ∙ sym (number-digits (λ i. get_or bits (source i) false) 0 64)

@@ -1,9 +1,8 @@
 -- What the values of a stage stand for: where bits solve all gates, the rounds on values compute the rounds on numbers.
-use Rattle.std.proofs.Common.{◌≡◌, ℕ, zero, suc, ◌+◌, ◌-◌, ◌*◌, ◌/◌, ◌%◌, ◌^◌, ◌<◌, ◌≤◌, Bool, true, false, not, List, [], ◌∷◌, ◌++◌, length, take, drop, map, get_or, refl, sym, ap, ◌∙◌, arith, lit<, lit≤, add-one, fold, bit_xor, slice_index, ◌==◌, if◌then◌else◌}
+use Rattle.std.proofs.Common.{◌≡◌, ℕ, zero, suc, ◌+◌, ◌-◌, ◌*◌, ◌/◌, ◌%◌, ◌^◌, ◌<◌, ◌≤◌, Bool, true, false, not, List, [], ◌∷◌, ◌++◌, length, take, drop, map, get_or, refl, sym, ap, ◌∙◌, arith, lit<, add-one, fold, bit_xor, slice_index}
 use Rattle.std.specs.List.{range_with_len}
 use Rattle.std.proofs.Math.Nat.{mod-eq_of_lt}
-use Rattle.std.proofs.lemmas.List.{length-map, length-append, length-drop, length-take-le, map-append, take-map, drop-map, get_or-map}
-use Rattle.std.proofs.lemmas.List.FromFn.{length-range_with_len}
+use Rattle.std.proofs.lemmas.List.{length-map, length-drop, length-take-le, map-append, take-map, drop-map, get_or-map}
 use Rattle.mask_bits.specs.Reading.{number, lowest}
 use Rattle.mask_bits.proofs.Numbers.{number-append, number-lowest, length-lowest}
 use Rattle.mask_circuit.specs.declared.gates.Gate.{Gate}
@@ -11,14 +10,13 @@ use Rattle.mask_circuit.specs.Netlist.{Netlist, value_count}
 use Rattle.mask_circuit.specs.Value.{xor, value_at}
 use Rattle.mask_parts.specs.Drafts.{with_gates, with_outputs, Grows}
 use Rattle.mask_parts.specs.PresentSbox.{sbox, sbox_gates, sbox_results, with_sbox}
-use Rattle.mask_parts.proofs.Growing.{value_count-with_gates}
 use Rattle.mask_parts.proofs.Substituting.{length-sbox_gates, sbox-solved}
 use Rattle.mask_parts.proofs.Solving.{Solves, Solves-left, Solves-right}
-use Rattle.mask_present.specs.Present.{Register, substituted, permuted, round_key, rotated, replaced, updated, register_after, key_of_round, block_after, encrypted}
+use Rattle.mask_present.specs.Present.{Register, substituted, permuted, round_key, rotated, replaced, updated, register_after, block_after, encrypted}
 use Rattle.mask_present.specs.NamedPresent.{Stage, xor_gates, xored, sboxes, sboxes_results, source, moved, with_stretch, not_gates, not_results, counter_values, key_added, block_substituted, block_moved, key_rotated, key_replaced, key_counted, key_updated, block_round, stage_after, rounds}
-use Rattle.mask_present.proofs.Fitting.{IsShape, AllWithin, Fits, length-sboxes_results, length-sbox_results, length-not_results, length-counter_values, Fits-key_added, Fits-block_substituted, Fits-block_moved, Fits-key_rotated, Fits-key_replaced, Fits-key_counted}
-use Rattle.mask_present.proofs.Lengthening.{Lengthens, Lengthens-block_substituted, Lengthens-nibbles, Lengthens-key_counted, Lengthens-key_updated, Lengthens-block_round, Lengthens-rounds}
-use Rattle.mask_present.proofs.NumberLaws.{xor_bits, number-xor_bits, number-take, number-drop, number-rotated, number-stretch, number-between, number-xor_stretch}
+use Rattle.mask_present.proofs.Fitting.{IsShape, AllWithin, Fits, length-sbox_results, length-not_results, length-counter_values, Fits-key_added, Fits-block_substituted, Fits-block_moved, Fits-key_rotated, Fits-key_replaced, Fits-key_counted}
+use Rattle.mask_present.proofs.Lengthening.{Lengthens-block_substituted, Lengthens-nibbles, Lengthens-key_counted, Lengthens-key_updated, Lengthens-block_round, Lengthens-rounds}
+use Rattle.mask_present.proofs.NumberLaws.{xor_bits, number-xor_bits, number-take, number-drop, number-rotated, number-stretch, number-xor_stretch}
 use Rattle.mask_present.proofs.Permuting.{source-lt, permuted-number}
 
 -- the bits vs solve all gates of the draft
@@ -53,12 +51,12 @@ pub shown-xor_gates : (vs : List Bool) (n k : ℕ) (us ws : List ℕ) → length
 shown-xor_gates vs n k us ws long long' solved =
     let bits = xor_gates-solved vs n us ws (long ∙ sym long') solved in
     ap (λ m. shown vs (range_with_len n m)) (sym long) ∙ ap number bits
-        ∙ number-xor_bits (map (value_at vs) us) (map (value_at vs) ws) (length-map us _ ∙ long ∙ sym long' ∙ sym (length-map ws _))
+    ∙ number-xor_bits (map (value_at vs) us) (map (value_at vs) ws) (length-map us _ ∙ long ∙ sym long' ∙ sym (length-map ws _))
 
 shown-append : (vs : List Bool) (us ws : List ℕ) → shown vs (us ++ ws) ≡ shown vs us + 2 ^ length us * shown vs ws
 shown-append vs us ws =
     ap number (map-append (value_at vs) us ws) ∙ number-append (map (value_at vs) us) (map (value_at vs) ws)
-        ∙ rw (length-map us (value_at vs)) refl
+    ∙ rw (length-map us (value_at vs)) refl
 
 shown-take : (vs : List Bool) (n : ℕ) (us : List ℕ) → n ≤ length us → shown vs (take n us) ≡ shown vs us % 2 ^ n
 shown-take vs n us within = rw (← take-map) (number-take n (map (value_at vs) us) (rw (length-map us (value_at vs)) within))
@@ -75,12 +73,12 @@ shown-sboxes vs (suc m) n us long solved =
     let rest : List Gate = sboxes m (n + 26) (drop 4 us) in
     let four : 4 ≤ length us = omega arith in
     let one : shown vs (sbox_results n) ≡ sbox (shown vs (take 4 us)) =
-        sbox-solved vs n (take 4 us) (length-take-le 4 us four) (Solves-left vs n first rest solved) in
+    sbox-solved vs n (take 4 us) (length-take-le 4 us four) (Solves-left vs n first rest solved) in
     let later : Solves vs (n + 26) rest = rw (length-sbox_gates n (take 4 us)) at (Solves-right vs n first rest solved) in
     let others : shown vs (sboxes_results m (n + 26)) ≡ substituted m (shown vs (drop 4 us)) =
-        shown-sboxes vs m (n + 26) (drop 4 us) (length-drop 4 us ∙ omega arith) later in
+    shown-sboxes vs m (n + 26) (drop 4 us) (length-drop 4 us ∙ omega arith) later in
     shown-append vs (sbox_results n) (sboxes_results m (n + 26))
-        ∙ rw (length-sbox_results n, one, others, shown-take vs 4 us four, shown-drop vs 4 us four) refl
+    ∙ rw (length-sbox_results n, one, others, shown-take vs 4 us four, shown-drop vs 4 us four) refl
 
 map-same : {A B : Type 0} (f g : A → B) (xs : List A) → ((x : A) → f x ≡ g x) → map f xs ≡ map g xs
 map-same f g [] same = refl
@@ -94,9 +92,9 @@ pub shown-moved : (vs : List Bool) (us : List ℕ) → length us ≡ 64 → show
 unfolding moved
 shown-moved vs us long =
     let bit : (i : ℕ) → value_at vs (slice_index us (source i)) ≡ get_or (map (value_at vs) us) (source i) false =
-        λ i. sym (get_or-map (value_at vs) us (source i) 0 false (let h = source-lt i in omega arith)) in
+    λ i. sym (get_or-map (value_at vs) us (source i) 0 false (let h = source-lt i in omega arith)) in
     ap number (map-map (value_at vs) (λ i. slice_index us (source i)) (range_with_len 0 64) ∙ map-same _ _ (range_with_len 0 64) bit)
-        ∙ sym (permuted-number (map (value_at vs) us))
+    ∙ sym (permuted-number (map (value_at vs) us))
 
 xor-true : (b : Bool) → xor b true ≡ not b
 xor-true true = refl
@@ -167,7 +165,7 @@ Shows-key_rotated r vs k b s shape shows =
     record {
       fits = Fits-key_rotated r s shape shows.fits;
       key = ap number (map-append (value_at vs) (drop (r.width - 61) s.key) (take (r.width - 61) s.key)
-              ∙ rw (drop-map (value_at vs) (r.width - 61) s.key, take-map (value_at vs) (r.width - 61) s.key) refl)
+          ∙ rw (drop-map (value_at vs) (r.width - 61) s.key, take-map (value_at vs) (r.width - 61) s.key) refl)
           ∙ number-rotated (r.width - 61) 61 bits bits_long ∙ rw shows.key refl;
       block = shows.block;
     }
@@ -176,7 +174,7 @@ map-with_stretch : (f : ℕ → Bool) (at : ℕ) (us xs : List ℕ) → map f (w
 unfolding with_stretch
 map-with_stretch f at us xs =
     map-append f (take at xs) (us ++ drop (at + length us) xs)
-        ∙ rw (map-append f us (drop (at + length us) xs), length-map us f, take-map f at xs, drop-map f (at + length us) xs) refl
+    ∙ rw (map-append f us (drop (at + length us) xs), length-map us f, take-map f at xs, drop-map f (at + length us) xs) refl
 
 pub Shows-key_replaced : (r : Register) (vs : List Bool) (k b at : ℕ) (s : Stage) → at + 4 ≤ r.width → Solved vs (key_replaced s at).draft → Shows r vs k b s
     → Shows r vs (replaced k at) b (key_replaced s at)
@@ -189,9 +187,9 @@ Shows-key_replaced r vs k b at s within solved shows =
     let bits_long : length bits ≡ r.width = length-map s.key (value_at vs) ∙ long in
     let nibble_long : length nibble ≡ 4 = length-take-le 4 (drop at s.key) (rw (length-drop at s.key) (omega arith)) in
     let nibble_shown : shown vs nibble ≡ k / 2 ^ at % 16 =
-        shown-take vs 4 (drop at s.key) (rw (length-drop at s.key) (omega arith)) ∙ rw (shown-drop vs at s.key (omega arith), shows.key) refl in
+    shown-take vs 4 (drop at s.key) (rw (length-drop at s.key) (omega arith)) ∙ rw (shown-drop vs at s.key (omega arith), shows.key) refl in
     let result : number (map (value_at vs) (sbox_results n)) ≡ sbox (k / 2 ^ at % 16) =
-        sbox-solved vs n nibble nibble_long (Solved-with_gates vs s.draft (sbox_gates n nibble) solved).1 ∙ rw nibble_shown refl in
+    sbox-solved vs n nibble nibble_long (Solved-with_gates vs s.draft (sbox_gates n nibble) solved).1 ∙ rw nibble_shown refl in
     let results_long : length (map (value_at vs) (sbox_results n)) ≡ 4 = length-map (sbox_results n) (value_at vs) ∙ length-sbox_results n in
     record {
       fits = Fits-key_replaced r s at within shows.fits;
@@ -223,11 +221,11 @@ Shows-key_counted r vs k b i s shape small solved shows =
     let made : List Bool = map (value_at vs) (not_results n flags us) in
     let made_long : length made ≡ 5 = length-map (not_results n flags us) (value_at vs) ∙ length-not_results n flags us ∙ us_long in
     let made_is : number made ≡ bit_xor (shown vs us) i =
-        ap number (not_gates-solved vs n flags us same (Solved-with_gates vs s.draft (not_gates flags us) solved).1)
-            ∙ number-xor_bits (map (value_at vs) us) flags (length-map us (value_at vs) ∙ sym same)
-            ∙ ap (λ m. bit_xor (shown vs us) m) (number-lowest 5 i ∙ mod-eq_of_lt small) in
+    ap number (not_gates-solved vs n flags us same (Solved-with_gates vs s.draft (not_gates flags us) solved).1)
+    ∙ number-xor_bits (map (value_at vs) us) flags (length-map us (value_at vs) ∙ sym same)
+    ∙ ap (λ m. bit_xor (shown vs us) m) (number-lowest 5 i ∙ mod-eq_of_lt small) in
     let us_are : shown vs us ≡ number (take 5 (drop r.counter bits)) =
-        ap number (sym (take-map (value_at vs) 5 (drop r.counter s.key)) ∙ ap (take 5) (sym (drop-map (value_at vs) r.counter s.key))) in
+    ap number (sym (take-map (value_at vs) 5 (drop r.counter s.key)) ∙ ap (take 5) (sym (drop-map (value_at vs) r.counter s.key))) in
     record {
       fits = Fits-key_counted r i s shape shows.fits;
       key = ap number (map-with_stretch (value_at vs) r.counter (not_results n flags us) s.key)
@@ -243,7 +241,7 @@ Shows-key_updated r vs k b i s shape small solved shows =
     let turned = key_rotated r s in
     let before = Solved-Grows vs _ _ (Lengthens-key_counted r i (fold key_replaced turned r.nibbles)) solved in
     Shows-key_counted r vs _ b i _ shape small solved
-        (Shows-nibbles r vs _ b r.nibbles turned shape.nibbles before (Shows-key_rotated r vs k b s shape shows))
+    (Shows-nibbles r vs _ b r.nibbles turned shape.nibbles before (Shows-key_rotated r vs k b s shape shows))
 
 pub Shows-block_round : (r : Register) (vs : List Bool) (k b : ℕ) (s : Stage) → IsShape r → Solved vs (block_round r s).draft → Shows r vs k b s
     → Shows r vs k (permuted (substituted 16 (bit_xor b (round_key r k)))) (block_round r s)
@@ -251,7 +249,7 @@ unfolding block_round block_moved
 Shows-block_round r vs k b s shape solved shows =
     let before = Solved-Grows vs _ _ (Lengthens-block_substituted (key_added r s)) solved in
     Shows-block_moved r vs k _ (block_substituted (key_added r s))
-        (Shows-block_substituted r vs k _ (key_added r s) solved (Shows-key_added r vs k b s shape before shows))
+    (Shows-block_substituted r vs k _ (key_added r s) solved (Shows-key_added r vs k b s shape before shows))
 
 pub Shows-stage_after : (r : Register) (vs : List Bool) (k b i : ℕ) (s : Stage) → IsShape r → i < 32 → Solved vs (stage_after r i s).draft → Shows r vs k b s
     → Shows r vs (register_after r i k) (block_after r i k b) (stage_after r i s)
@@ -262,7 +260,7 @@ Shows-stage_after r vs k b (suc i) s shape small solved shows =
     let half = Solved-Grows vs _ _ (Lengthens-key_updated r (suc i) (block_round r before)) solved in
     let whole = Solved-Grows vs _ _ (Lengthens-block_round r before) half in
     Shows-key_updated r vs _ _ (suc i) (block_round r before) shape small solved
-        (Shows-block_round r vs _ _ before shape half (Shows-stage_after r vs k b i s shape (omega arith) whole shows))
+    (Shows-block_round r vs _ _ before shape half (Shows-stage_after r vs k b i s shape (omega arith) whole shows))
 
 pub Shows-rounds : (r : Register) (vs : List Bool) (k b : ℕ) (s : Stage) → IsShape r → Solved vs (rounds r s).draft → Shows r vs k b s
     → shown vs (rounds r s).block ≡ encrypted r k b
@@ -270,4 +268,4 @@ unfolding rounds encrypted
 Shows-rounds r vs k b s shape solved shows =
     let before = Solved-Grows vs _ _ (Lengthens-rounds r s) solved in
     (Shows-key_added r vs _ _ (stage_after r 31 s) shape (unfold rounds in solved)
-        (Shows-stage_after r vs k b 31 s shape (lit< tt) before shows)).block
+    (Shows-stage_after r vs k b 31 s shape (lit< tt) before shows)).block

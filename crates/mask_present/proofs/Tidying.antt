@@ -1,23 +1,21 @@
 -- The rounds keep a draft tidy, and leave free values.
-use Rattle.std.proofs.Common.{◌≡◌, ℕ, zero, suc, ◌+◌, ◌-◌, ◌*◌, ◌<◌, ◌≤◌, ◌⊎◌, inl, inr, Bool, true, false, Some, List, [], ◌∷◌, ◌++◌, length, take, drop, All, refl, sym, ap, ◌∙◌, subst, arith, lit<, fold}
-use Rattle.std.proofs.lemmas.List.{length-take-le, length-drop, append_assoc}
+use Rattle.std.proofs.Common.{◌≡◌, ℕ, zero, suc, ◌+◌, ◌-◌, ◌*◌, ◌<◌, ◌≤◌, Bool, true, false, List, [], ◌∷◌, ◌++◌, length, take, drop, All, refl, sym, ap, ◌∙◌, subst, arith, fold}
+use Rattle.std.proofs.lemmas.List.{length-take-le, length-drop}
 use Rattle.std.proofs.lemmas.List.Elements.{All-nil, All-cons, All-head, All-tail, All-append, All-take, All-drop, All-weaker, All-get_or}
 use Rattle.std.specs.List.{range_with_len}
 use Rattle.std.proofs.lemmas.List.FromFn.{length-range_with_len, get_or-range_with_len}
-use Rattle.std.proofs.lemmas.Bool.{cases_lt}
 use Rattle.mask_bits.specs.Reading.{lowest}
 use Rattle.mask_circuit.specs.declared.gates.Gate.{Gate}
 use Rattle.mask_circuit.specs.declared.gates.Gate.TheVariants.{Xor, Not}
-use Rattle.mask_circuit.specs.Netlist.{Netlist, AreGates, value_count, is_product}
-use Rattle.mask_circuit.specs.Value.{value_at}
-use Rattle.mask_circuit.specs.Acceptance.{Uses, IsTidy}
+use Rattle.mask_circuit.specs.Netlist.{Netlist, AreGates, value_count}
+use Rattle.mask_circuit.specs.Acceptance.{IsTidy}
 use Rattle.mask_parts.specs.Drafts.{with_gates, with_outputs, Grows}
 use Rattle.mask_parts.specs.PresentSbox.{sbox_gates, sbox_results, with_sbox}
 use Rattle.mask_parts.specs.Tidiness.{IsFree, KeepsTidy}
-use Rattle.mask_parts.proofs.Growing.{value_count-Grows, value_count-with_gates, with_gates-nil, with_gates-with_gates, Grows-with_gates, AreGates-left}
+use Rattle.mask_parts.proofs.Growing.{value_count-with_gates, with_gates-nil, with_gates-with_gates, Grows-with_gates, AreGates-left}
 use Rattle.mask_parts.proofs.Keeping.{KeepsTidy-refl, KeepsTidy-then}
 use Rattle.mask_present.specs.Present.{Register}
-use Rattle.mask_present.specs.NamedPresent.{Stage, xor_gates, xored, sboxes, sboxes_results, not_gates, not_results, counter_values, key_added, block_substituted, block_moved, key_rotated, key_replaced, key_counted, key_updated, block_round, stage_after, rounds, start}
+use Rattle.mask_present.specs.NamedPresent.{Stage, xor_gates, xored, sboxes, sboxes_results, not_gates, counter_values, key_added, block_substituted, block_moved, key_rotated, key_replaced, key_counted, key_updated, block_round, stage_after, rounds}
 use Rattle.mask_present.proofs.Fitting.{IsShape, AllWithin, Fits, Fits-key_added, Fits-block_substituted, Fits-block_round, Fits-key_rotated, Fits-key_replaced, Fits-stage_after}
 use Rattle.mask_present.proofs.Counting.{Counts-xor_gates}
 use Rattle.mask_present.proofs.Lengthening.{Lengthens-key_added, Lengthens-block_substituted, Lengthens-block_round, Lengthens-key_replaced, Lengthens-nibbles, Lengthens-key_counted, Lengthens-key_updated}
@@ -63,7 +61,7 @@ AllTake-xor_gates c (u ∷ us) [] one two = All-nil (TakesFree c)
 AllTake-xor_gates c (u ∷ us) (v ∷ vs) one two =
     let left = All-head (IsReady c) u us one in let right = All-head (IsReady c) v vs two in
     All-cons (TakesFree c) (Xor u v) (xor_gates us vs) (TakesFree-xor c u v left.below right.below left.free right.free)
-        (AllTake-xor_gates c us vs (All-tail (IsReady c) u us one) (All-tail (IsReady c) v vs two))
+    (AllTake-xor_gates c us vs (All-tail (IsReady c) u us one) (All-tail (IsReady c) v vs two))
 
 AllTake-not_gates : (c : Netlist) (bs : List Bool) (us : List ℕ) → All (IsReady c) us → All (TakesFree c) (not_gates bs us)
 unfolding not_gates
@@ -78,8 +76,8 @@ pub KeepsWith-layer : (c : Netlist) (gs : List Gate) → Formed (with_gates c gs
 KeepsWith-layer c gs formed takes tidy =
     let count = value_count-with_gates c gs in
     KeepsWith-tidy c (with_gates c gs) (range_with_len (value_count c) (length gs)) (omega arith)
-        (All-range (λ u. u < value_count (with_gates c gs)) (value_count c) (length gs) (λ u low high. omega arith))
-        (KeepsTidy-layer c gs (Formed-Grows c (with_gates c gs) (Grows-with_gates c gs) formed) tidy takes)
+    (All-range (λ u. u < value_count (with_gates c gs)) (value_count c) (length gs) (λ u low high. omega arith))
+    (KeepsTidy-layer c gs (Formed-Grows c (with_gates c gs) (Grows-with_gates c gs) formed) tidy takes)
 
 -- each of so many values in a row
 ready_in : (d : Netlist) (n k m : ℕ) → k ≡ m → All (IsReady d) (range_with_len n k) → (u : ℕ) → n ≤ u → u < n + m → IsReady d u
@@ -99,9 +97,9 @@ pub KeepsWith-sbox : (c : Netlist) (us : List ℕ) → Formed c → length us �
 KeepsWith-sbox c us formed long ready tidy =
     let count : value_count (with_sbox c us) ≡ value_count c + 26 = count-with_sbox c us in
     KeepsWith-tidy c (with_sbox c us) (sbox_results (value_count c)) (omega arith)
-        (All-sbox_results (λ u. u < value_count (with_sbox c us)) (value_count c) (omega arith) (omega arith) (omega arith) (omega arith))
-        (KeepsTidy-sbox c us formed long (All-weaker (IsReady c) (λ u. u < value_count c) (λ u r. r.below) us ready) tidy
-            (All-weaker (IsReady c) (IsFree c) (λ u r. r.free) us ready))
+    (All-sbox_results (λ u. u < value_count (with_sbox c us)) (value_count c) (omega arith) (omega arith) (omega arith) (omega arith))
+    (KeepsTidy-sbox c us formed long (All-weaker (IsReady c) (λ u. u < value_count c) (λ u r. r.below) us ready) tidy
+    (All-weaker (IsReady c) (IsFree c) (λ u r. r.free) us ready))
 
 KeepsWith-sboxes : (m n : ℕ) (c : Netlist) (us : List ℕ) → n ≡ value_count c → Formed (with_gates c (sboxes m n us)) → length us ≡ 4 * m → All (IsReady c) us → IsTidy c
     → KeepsWith c (with_gates c (sboxes m n us)) (sboxes_results m n)
@@ -117,11 +115,11 @@ KeepsWith-sboxes (suc m) n c us at formed long ready tidy =
     let formed_before : Formed c = Formed-Grows c (with_gates c (first ++ rest)) (Grows-with_gates c (first ++ rest)) formed in
     let four : length (take 4 us) ≡ 4 = length-take-le 4 us (omega arith) in
     let one : KeepsWith c d (sbox_results n) =
-        rw at (KeepsWith-sbox c (take 4 us) formed_before four (All-take (IsReady c) 4 us ready) tidy) in
+    rw at (KeepsWith-sbox c (take 4 us) formed_before four (All-take (IsReady c) 4 us ready) tidy) in
     let count : value_count d ≡ value_count c + 26 = value_count-with_gates c first ∙ ap (λ k. value_count c + k) (length-sbox_gates n (take 4 us)) in
     let others : All (IsReady d) (drop 4 us) = All-weaker (IsReady c) (IsReady d) (IsReady-later c d [] one.more one.tidy) (drop 4 us) (All-drop (IsReady c) 4 us ready) in
     let later : KeepsWith d e (sboxes_results m (n + 26)) =
-        KeepsWith-sboxes m (n + 26) d (drop 4 us) (omega arith) (subst Formed (sym whole) formed) (length-drop 4 us ∙ omega arith) others one.tidy.tidy in
+    KeepsWith-sboxes m (n + 26) d (drop 4 us) (omega arith) (subst Formed (sym whole) formed) (length-drop 4 us ∙ omega arith) others one.tidy.tidy in
     let more = one.more in let later_more = later.more in
     subst (λ (f : Netlist). KeepsWith c f (sbox_results n ++ sboxes_results m (n + 26))) whole (record {
       tidy = KeepsTidy-then c d e [] [] one.more one.tidy later.tidy;
@@ -163,7 +161,7 @@ Steadies-key_added r s shape fits formed steady =
     let long = fits.key in let block = fits.block in let wide = shape.wide in
     let count : length gs ≡ 64 = (Counts-xor_gates s.block high (block ∙ sym (length-drop (r.width - 64) s.key ∙ omega arith))).gates ∙ block in
     let keeps = KeepsWith-layer s.draft gs formed
-        (AllTake-xor_gates s.draft s.block high steady.ready.block (All-drop (IsReady s.draft) (r.width - 64) s.key steady.ready.key)) steady.tidy in
+    (AllTake-xor_gates s.draft s.block high steady.ready.block (All-drop (IsReady s.draft) (r.width - 64) s.key steady.ready.key)) steady.tidy in
     record {
       kept = keeps.tidy;
       more = keeps.more;
@@ -226,7 +224,7 @@ Steadies-nibbles r (at ∷ ats) s within fits formed steady =
     let before = Formed-Grows t.draft (fold key_replaced t ats).draft (Lengthens-nibbles ats t) formed in
     let one = Steadies-key_replaced r s at within.0 fits before steady in
     Steadies-trans s t (fold key_replaced t ats) one
-        (Steadies-nibbles r ats t within.1 (Fits-key_replaced r s at within.0 fits) formed (steady_after s t one))
+    (Steadies-nibbles r ats t within.1 (Fits-key_replaced r s at within.0 fits) formed (steady_after s t one))
 
 pub Steadies-key_updated : (r : Register) (i : ℕ) (s : Stage) → IsShape r → Fits r s → Formed (key_updated r i s).draft → Steady s → Steadies s (key_updated r i s)
 unfolding key_updated

@@ -1,7 +1,7 @@
 -- The updates of the register, nibble by nibble and bit by bit: what is made and what is left.
-use Rattle.std.proofs.Common.{◌≡◌, ℕ, zero, suc, ◌+◌, ◌-◌, ◌*◌, ◌<◌, ◌≤◌, Bool, true, false, List, [], ◌∷◌, ◌++◌, length, take, drop, get_or, set, All, refl, sym, ap, ap₂, ◌∙◌, subst, arith, add-zero, fold, Result, if◌then◌else◌}
-use Rattle.std.proofs.lemmas.List.{length-set, length-append, drop_more, drop_all, take_all, take_more_set, append-nil, append_assoc}
-use Rattle.std.proofs.lemmas.List.Elements.{All-nil, All-weaker}
+use Rattle.std.proofs.Common.{◌≡◌, ℕ, ◌+◌, ◌-◌, ◌<◌, ◌≤◌, Bool, true, false, List, [], ◌∷◌, ◌++◌, length, take, drop, get_or, set, All, refl, sym, ap, ap₂, ◌∙◌, subst, arith, add-zero, fold, Result, if◌then◌else◌}
+use Rattle.std.proofs.lemmas.List.{length-set, drop_more, drop_all, take_all, take_more_set, append-nil, append_assoc}
+use Rattle.std.proofs.lemmas.List.Elements.{All-nil}
 use Rattle.mask_circuit.specs.declared.gates.Gate.{Gate}
 use Rattle.mask_circuit.specs.declared.builders.CircuitError.{CircuitError}
 use Rattle.mask_bits.specs.Reading.{lowest}
@@ -111,8 +111,8 @@ module _ (before c : Netlist) (flags : List Bool) (us results : List ℕ) (k : �
   left-counted : with_gates after_bit (not_gates (drop (k + 1) flags) (drop (k + 1) us)) ≡ with_gates before (not_gates flags us)
   left-counted =
       with_gates-with_gates c (one_gate flag value) (not_gates (drop (k + 1) flags) (drop (k + 1) us))
-          ∙ ap (with_gates c) (sym (not_gates-cons flag (drop (k + 1) flags) value (drop (k + 1) us)) ∙ sym (ap₂ not_gates (drop_more flags k false one) (drop_more us k 0 two)))
-          ∙ has.left
+      ∙ ap (with_gates c) (sym (not_gates-cons flag (drop (k + 1) flags) value (drop (k + 1) us)) ∙ sym (ap₂ not_gates (drop_more flags k false one) (drop_more us k 0 two)))
+      ∙ has.left
 
   -- the next bit is part of the whole
   pub rest-counted : Grows after_bit (with_gates before (not_gates flags us))
@@ -127,8 +127,8 @@ module _ (before c : Netlist) (flags : List Bool) (us results : List ℕ) (k : �
       let results_now : take (k + 1) (set results k w) ≡ take k results ++ w ∷ [] = take_more_set results k w (omega arith) in
       let others : List ℕ = not_results (value_count c + length (one_gate flag value)) (drop (k + 1) flags) (drop (k + 1) us) in
       let joined : w ∷ others ≡ not_results (value_count c) (drop k flags) (drop k us) =
-          sym (not_results-cons (value_count c) flag (drop (k + 1) flags) value (drop (k + 1) us))
-              ∙ sym (ap₂ (not_results (value_count c)) (drop_more flags k false one) (drop_more us k 0 two)) in
+      sym (not_results-cons (value_count c) flag (drop (k + 1) flags) value (drop (k + 1) us))
+      ∙ sym (ap₂ (not_results (value_count c)) (drop_more flags k false one) (drop_more us k 0 two)) in
       rw made (record {
         begun = Grows-trans before c after_bit has.begun (Grows-with_gates c (one_gate flag value));
         within = within;
@@ -143,8 +143,7 @@ unfolding not_gates not_results
 HasCounted-all before c flags us results k one two end has =
     let no_flags : drop k flags ≡ [] = drop_all k flags (omega arith) in
     let no_values : drop k us ≡ [] = drop_all k us (omega arith) in
-    let whole : c ≡ with_gates before (not_gates flags us) = sym (rw no_flags (with_gates-nil c)) ∙ has.left in
-    (
+    let whole : c ≡ with_gates before (not_gates flags us) = sym (rw no_flags (with_gates-nil c)) ∙ has.left in (
       sym (rw (no_flags, no_values, append-nil (take k results)) (take_all k results (let long = has.long in omega arith))) ∙ has.made,
       whole,
       subst IsWithinLimits whole has.within,

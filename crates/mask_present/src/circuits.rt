@@ -38,7 +38,26 @@ fn number_from(places: &mut [u32], first: u32)
     }
 }
 
-// Lays the circuit on its inputs: the key, then the counter block, then the message block.
+// Lays the circuit on these inputs.
+fn lay_on(
+    b: &mut Builder,
+    size: KeySize,
+    key: &[u32],
+    counter: &[u32; 64],
+    message: &[u32; 64],
+) -> Result<(), CircuitError>
+    requires inputs { b.old ≡ only_inputs ((register size).width + 128) }
+    requires first { key.now ≡ range_with_len 0 (register size).width }
+    requires second { counter.now ≡ range_with_len (register size).width 64 }
+    requires third { message.now ≡ range_with_len ((register size).width + 64) 64 }
+    ensures { Lays b.old (named_present size) tt b.new result }
+{
+    let encrypted = present_rounds(b, size, key, counter)?;
+    let sums = xor_blocks(b, &encrypted, message)?;
+    fence_outputs(b, &sums)
+}
+
+// The inputs are the key, then the counter block, then the message block.
 fn lay_circuit(b: &mut Builder, size: KeySize) -> Result<(), CircuitError>
     requires { b.old ≡ only_inputs ((register size).width + 128) }
     ensures { Lays b.old (named_present size) tt b.new result }
@@ -51,9 +70,7 @@ fn lay_circuit(b: &mut Builder, size: KeySize) -> Result<(), CircuitError>
     number_from(&mut counter, width);
     let mut message = [0; 64];
     number_from(&mut message, width + 64);
-    let encrypted = present_rounds(b, size, key, &counter)?;
-    let sums = xor_blocks(b, &encrypted, &message)?;
-    fence_outputs(b, &sums)
+    lay_on(b, size, key, &counter, &message)
 }
 
 fn named_circuit(alloc: Global, size: KeySize) -> Result<Circuit, AllocError>

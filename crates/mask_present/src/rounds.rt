@@ -15,7 +15,12 @@ use mask_circuit::{Builder, CircuitError};
 use mask_tasks::KeySize;
 
 // The block xored with the round key.
-fn add_key(b: &mut Builder, size: KeySize, key: &[u32], block: &[u32; 64]) -> Result<[u32; 64], CircuitError>
+fn add_key(
+    b: &mut Builder,
+    size: KeySize,
+    key: &[u32],
+    block: &[u32; 64],
+) -> Result<[u32; 64], CircuitError>
     requires width { length key.now ≡ (register size).width }
     requires key_known { All (λ u. u < value_count b.old) key.now }
     requires block_known { All (λ u. u < value_count b.old) block.now }
@@ -26,7 +31,12 @@ fn add_key(b: &mut Builder, size: KeySize, key: &[u32], block: &[u32; 64]) -> Re
 }
 
 // A round on the block.
-fn block_round(b: &mut Builder, size: KeySize, key: &[u32], block: &[u32; 64]) -> Result<[u32; 64], CircuitError>
+fn block_round(
+    b: &mut Builder,
+    size: KeySize,
+    key: &[u32],
+    block: &[u32; 64],
+) -> Result<[u32; 64], CircuitError>
     requires width { length key.now ≡ (register size).width }
     requires key_known { All (λ u. u < value_count b.old) key.now }
     requires block_known { All (λ u. u < value_count b.old) block.now }
@@ -39,7 +49,12 @@ fn block_round(b: &mut Builder, size: KeySize, key: &[u32], block: &[u32; 64]) -
 }
 
 // The rounds on the block, with updates of the register between them.
-fn rounds(b: &mut Builder, size: KeySize, key: &mut [u32], block: &[u32; 64]) -> Result<[u32; 64], CircuitError>
+fn rounds(
+    b: &mut Builder,
+    size: KeySize,
+    key: &mut [u32],
+    block: &[u32; 64],
+) -> Result<[u32; 64], CircuitError>
     requires width { length key.old ≡ (register size).width }
     requires key_known { All (λ u. u < value_count b.old) key.old }
     requires block_known { All (λ u. u < value_count b.old) block.now }
@@ -61,7 +76,12 @@ fn rounds(b: &mut Builder, size: KeySize, key: &mut [u32], block: &[u32; 64]) ->
 }
 
 // So the block is encrypted, on a copy of the key.
-fn encrypted(b: &mut Builder, size: KeySize, key: &[u32], block: &[u32; 64]) -> Result<[u32; 64], CircuitError>
+fn encrypted(
+    b: &mut Builder,
+    size: KeySize,
+    key: &[u32],
+    block: &[u32; 64],
+) -> Result<[u32; 64], CircuitError>
     requires width { length key.now ≡ (register size).width }
     requires key_known { All (λ u. u < value_count b.old) key.now }
     requires block_known { All (λ u. u < value_count b.old) block.now }

@@ -1,4 +1,4 @@
-use Rattle.std.proofs.Common.{◌≡◌, ◌+◌, ◌-◌, length, sym, ◌∙◌, arith, rules}
+use Rattle.std.proofs.Common.{◌≡◌, length, arith, rules}
 use Rattle.mask_present.proofs.Stretches.{put_mid-stretch}
 use Rattle.mask_present.proofs.nibbles.set_nibble.Goals as goal
 

@@ -1,4 +1,4 @@
-use Rattle.std.proofs.Common.{◌≡◌, ◌+◌, ◌*◌, ℕ, ◌<◌, length, take, drop, arith, rules, ap, sym, All}
+use Rattle.std.proofs.Common.{◌*◌, ◌<◌, drop, arith, rules, All}
 use Rattle.std.proofs.lemmas.List.Elements.{All-take, All-drop, All-weaker}
 use Rattle.mask_circuit.specs.Netlist.{value_count}
 use Rattle.mask_parts.proofs.Growing.{value_count-Grows}
@@ -14,20 +14,20 @@ sbox4_present-requires c =
     let us = c.args.block.now in
     let more = value_count-Grows c.args.b.now c.loop-g.b c.loop-g.invariant.begun in
     let known : All (λ u. u < value_count c.loop-g.b) us =
-        All-weaker (λ u. u < value_count c.args.b.now) (λ u. u < value_count c.loop-g.b) (λ u low. omega arith) us c.requires in
+    All-weaker (λ u. u < value_count c.args.b.now) (λ u. u < value_count c.loop-g.b) (λ u low. omega arith) us c.requires in
     rw c.nibble.ensures (All-take (λ u. u < value_count c.loop-g.b) 4 (drop (4 * c.loop-g.g) us) (All-drop (λ u. u < value_count c.loop-g.b) (4 * c.loop-g.g) us known))
 
 pub returns-in-Err : goal.returns-in-Err
 returns-in-Err c =
     IsRefused-within _ c.loop-g.b _ _ _ _ c.loop-g.invariant.begun
-        (rest-sbox c.args.b.now c.loop-g.b c.args.block.now c.loop-g.result c.loop-g.g c.told-block (omega arith) c.loop-g.invariant)
-        (rw c.nibble.ensures at c.in-Err.ensures.laid)
+    (rest-sbox c.args.b.now c.loop-g.b c.args.block.now c.loop-g.result c.loop-g.g c.told-block (omega arith) c.loop-g.invariant)
+    (rw c.nibble.ensures at c.in-Err.ensures.laid)
 
 pub loop-g-preserved : goal.loop-g-preserved
 loop-g-preserved c =
     let laid = rw c.nibble.ensures at c.in-Ok.ensures.laid in
     rw (c.set_nibble.ensures, c.in-Ok.ensures.laid.0)
-        (HasSubstituted-more c.args.b.now c.loop-g.b c.args.block.now c.loop-g.result c.loop-g.g c.told-block (omega arith) c.loop-g.invariant _ laid.1 laid.2)
+    (HasSubstituted-more c.args.b.now c.loop-g.b c.args.block.now c.loop-g.result c.loop-g.g c.told-block (omega arith) c.loop-g.invariant _ laid.1 laid.2)
 
 pub returns : goal.returns
 returns c = HasSubstituted-all c.args.b.now c.loop-g.b c.args.block.now c.loop-g.result c.loop-g.g (omega arith) c.loop-g.invariant

@@ -1,4 +1,4 @@
-use Rattle.std.proofs.Common.{◌≡◌, ℕ, ◌<◌, length, arith, rules, ap, sym}
+use Rattle.std.proofs.Common.{arith, rules}
 use Rattle.mask_parts.proofs.Laying.{IsWithinLimits-circuit, IsRefused-within}
 use Rattle.mask_present.proofs.Blocks.{HasXored-none, HasXored-more, HasXored-all, rest-xor}
 use Rattle.mask_present.proofs.round.xor_blocks.Goals as goal
@@ -10,7 +10,7 @@ pub returns-in-Err : goal.returns-in-Err
 returns-in-Err c =
     let us = c.args.us.now in let vs = c.args.vs.now in
     IsRefused-within _ c.loop-k.b _ _ _ _ c.loop-k.invariant.begun
-        (rest-xor c.args.b.now c.loop-k.b us vs c.loop-k.sums c.loop-k.k (omega arith) (omega arith) c.loop-k.invariant) c.in-Err.ensures
+    (rest-xor c.args.b.now c.loop-k.b us vs c.loop-k.sums c.loop-k.k (omega arith) (omega arith) c.loop-k.invariant) c.in-Err.ensures
 
 pub loop-k-preserved : goal.loop-k-preserved
 loop-k-preserved c =

@@ -1,4 +1,4 @@
-use Rattle.std.proofs.Common.{◌≡◌, ◌+◌, ◌-◌, ℕ, length, take, drop, sym, ap, ◌∙◌, arith, rules}
+use Rattle.std.proofs.Common.{◌≡◌, ◌+◌, ◌-◌, length, take, drop, sym, ◌∙◌, arith}
 use Rattle.std.proofs.lemmas.List.{length-take-le, length-drop}
 use Rattle.mask_bits.specs.Reading.{lowest}
 use Rattle.mask_circuit.specs.Netlist.{value_count}
@@ -15,4 +15,4 @@ returns-clause-counted c =
     let us_long : length us ≡ 5 = length-take-le 5 (drop at key) (rw (length-drop at key) (omega arith)) in
     let long = length-not_results (value_count c.args.b.now) (lowest 5 c.args.round) us ∙ us_long in
     put_mid-stretch at _ key _ (not_results (value_count c.args.b.now) (lowest 5 c.args.round) us)
-        (c.copy_from_slice.ensures.after ∙ (rw five at c.in_ok-counted.ensures.0)) (five ∙ sym long)
+    (c.copy_from_slice.ensures.after ∙ (rw five at c.in_ok-counted.ensures.0)) (five ∙ sym long)

@@ -1,8 +1,8 @@
-use Rattle.std.proofs.Common.{◌≡◌, ℕ, ◌<◌, false, [], ◌++◌, length, get_or, arith, rules, ap, sym, ◌∙◌, refl, All}
+use Rattle.std.proofs.Common.{◌≡◌, ℕ, ◌<◌, false, [], get_or, arith, rules, ap, sym, ◌∙◌, refl}
 use Rattle.std.proofs.lemmas.List.{append-nil}
 use Rattle.std.proofs.lemmas.List.Elements.{All-get_or}
 use Rattle.mask_bits.specs.Reading.{bit, lowest}
-use Rattle.mask_bits.proofs.Numbers.{get_or-lowest, length-lowest}
+use Rattle.mask_bits.proofs.Numbers.{get_or-lowest}
 use Rattle.mask_circuit.specs.Netlist.{value_count}
 use Rattle.mask_parts.proofs.Growing.{value_count-Grows}
 use Rattle.mask_parts.proofs.Laying.{IsWithinLimits-circuit, IsRefused-within}
@@ -26,16 +26,16 @@ pub returns-in-Err : goal.returns-in-Err
 returns-in-Err c =
     let flag = c.bit_of.ensures ∙ flag_is c.args.number c.loop-k.k (omega arith) in
     IsRefused-within _ c.loop-k.b _ _ _ _ c.loop-k.invariant.begun
-        (rest-counted c.args.b.now c.loop-k.b (lowest 5 c.args.number) c.args.values.now c.loop-k.result c.loop-k.k (omega arith) (omega arith) c.loop-k.invariant)
-        (rw flag at c.in-Err.ensures)
+    (rest-counted c.args.b.now c.loop-k.b (lowest 5 c.args.number) c.args.values.now c.loop-k.result c.loop-k.k (omega arith) (omega arith) c.loop-k.invariant)
+    (rw flag at c.in-Err.ensures)
 
 pub loop-k-preserved : goal.loop-k-preserved
 loop-k-preserved c =
     let flag = c.bit_of.ensures ∙ flag_is c.args.number c.loop-k.k (omega arith) in
     let laid = rw flag at c.in-Ok.ensures in
     rw (laid.0)
-        (HasCounted-more c.args.b.now c.loop-k.b (lowest 5 c.args.number) c.args.values.now c.loop-k.result c.loop-k.k (omega arith) (omega arith) c.loop-k.invariant
-            (omega arith) _ laid.1 laid.2)
+    (HasCounted-more c.args.b.now c.loop-k.b (lowest 5 c.args.number) c.args.values.now c.loop-k.result c.loop-k.k (omega arith) (omega arith) c.loop-k.invariant
+    (omega arith) _ laid.1 laid.2)
 
 pub returns : goal.returns
 returns c = HasCounted-all c.args.b.now c.loop-k.b (lowest 5 c.args.number) c.args.values.now c.loop-k.result c.loop-k.k refl c.requires.five (omega arith) c.loop-k.invariant

@@ -1,5 +1,4 @@
-use Rattle.std.proofs.Common.{◌≡◌, refl, sym}
-use Rattle.mask_parts.specs.PresentSbox.{with_sbox}
+use Rattle.std.proofs.Common.{refl}
 use Rattle.mask_parts.proofs.Growing.{Grows-refl}
 use Rattle.mask_parts.proofs.Laying.{Lays-exit}
 use Rattle.mask_present.specs.NamedPresent.{stage, key_replaced}

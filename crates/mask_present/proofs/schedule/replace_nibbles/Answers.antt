@@ -1,4 +1,4 @@
-use Rattle.std.proofs.Common.{◌≡◌, ℕ, ◌+◌, ◌<◌, ◌≤◌, length, get_or, arith, rules, ap, sym, ◌∙◌, refl, subst, All}
+use Rattle.std.proofs.Common.{arith, refl, subst}
 use Rattle.mask_parts.specs.Drafts.{IsWithinLimits}
 use Rattle.mask_parts.proofs.Laying.{IsWithinLimits-circuit, IsRefused-within}
 use Rattle.mask_present.proofs.Updates.{HasReplaced-none, HasReplaced-more, HasReplaced-all, rest-replaced}
@@ -13,13 +13,13 @@ replace_nibble-requires-clause-known c = c.loop-at.invariant.known
 pub returns-in-Err-clause-laid : goal.returns-in-Err-clause-laid
 returns-in-Err-clause-laid c =
     IsRefused-within _ c.loop-at.b _ _ _ _ c.loop-at.invariant.begun
-        (rest-replaced c.args.b.now c.loop-at.b c.args.key.now c.loop-at.key c.args.places.now c.loop-at.at-index (omega arith) c.loop-at.invariant)
-        c.in-Err.ensures.laid
+    (rest-replaced c.args.b.now c.loop-at.b c.args.key.now c.loop-at.key c.args.places.now c.loop-at.at-index (omega arith) c.loop-at.invariant)
+    c.in-Err.ensures.laid
 
 pub loop-at-preserved : goal.loop-at-preserved
 loop-at-preserved c =
     HasReplaced-more c.args.b.now c.loop-at.b c.args.key.now c.loop-at.key c.args.places.now c.loop-at.at-index (omega arith) c.loop-at.invariant
-        _ _ c.in-Ok.ensures.laid.1 c.in-Ok.ensures.replaced c.replace_nibble.auto.key c.in-Ok.ensures.laid.2
+    _ _ c.in-Ok.ensures.laid.1 c.in-Ok.ensures.replaced c.replace_nibble.auto.key c.in-Ok.ensures.laid.2
 
 pub returns-clause-laid : goal.returns-clause-laid
 returns-clause-laid c =
