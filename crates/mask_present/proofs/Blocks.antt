@@ -10,7 +10,7 @@ use Rattle.mask_parts.specs.PresentSbox.{sbox_gates, sbox_results, with_sbox}
 use Rattle.mask_parts.proofs.Growing.{value_count-with_gates, with_gates-nil, with_gates-with_gates, Grows-refl, Grows-trans, Grows-with_gates}
 use Rattle.mask_present.proofs.Fitting.{length-with_stretch, length-sbox_results}
 use Rattle.mask_present.proofs.Tidying.{count-with_sbox}
-use Rattle.mask_present.specs.NamedPresent.{xor_gates, xored, sboxes, sboxes_results, with_stretch}
+use Rattle.mask_present.specs.Rounds.{xor_gates, xored, sboxes, sboxes_results, with_stretch}
 
 -- XORS
 

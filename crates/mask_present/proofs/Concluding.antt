@@ -21,7 +21,8 @@ use Rattle.mask_parts.proofs.Fencing.{plain-with_fence}
 use Rattle.mask_parts.proofs.Growing.{Grows-trans, Grows-with_gates, Grows-with_outputs, value_count-with_gates, value_count-Grows}
 use Rattle.mask_parts.proofs.Solving.{Solves-all, values_from-keeps}
 use Rattle.mask_present.specs.Present.{Register, register, encrypted, present}
-use Rattle.mask_present.specs.NamedPresent.{Stage, stage, xor_gates, xored, rounds, start, encrypted_message, named_of, named_present, size_present, present_of_bits}
+use Rattle.mask_present.specs.NamedPresent.{start, encrypted_message, named_of, named_present, size_present, present_of_bits}
+use Rattle.mask_present.specs.Rounds.{Stage, stage, xor_gates, xored, rounds}
 use Rattle.mask_present.proofs.Counting.{Counts-xor_gates, Adds-message, size-named_present}
 use Rattle.mask_present.proofs.Encrypting.{inputs-Grows, begun-round}
 use Rattle.mask_present.proofs.Knowing.{Known-rounds, Known-start}

@@ -16,7 +16,8 @@ use Rattle.mask_parts.specs.Fences.{with_fence}
 use Rattle.mask_parts.specs.PresentSbox.{sbox_gates, with_sbox}
 use Rattle.mask_parts.proofs.Substituting.{length-sbox_gates, products-sbox_gates, refreshes-sbox_gates}
 use Rattle.mask_present.specs.Present.{Register, register}
-use Rattle.mask_present.specs.NamedPresent.{Stage, xor_gates, xored, sboxes, not_gates, counter_values, key_added, block_substituted, block_moved, key_rotated, key_replaced, key_counted, key_updated, block_round, stage_after, rounds, start, encrypted_message, named_of, named_present, size_present}
+use Rattle.mask_present.specs.NamedPresent.{start, encrypted_message, named_of, named_present, size_present}
+use Rattle.mask_present.specs.Rounds.{Stage, xor_gates, xored, sboxes, not_gates, counter_values, key_added, block_substituted, block_moved, key_rotated, key_replaced, key_counted, key_updated, block_round, stage_after, rounds}
 use Rattle.mask_present.proofs.Fitting.{IsShape, IsShape-register, Fits, length-counter_values, Fits-block_round, Fits-key_rotated, Fits-nibbles, Fits-stage_after, Fits-rounds, Fits-start}
 
 -- a list of gates has so many gates, products and refreshes

@@ -10,7 +10,7 @@ use Rattle.mask_parts.specs.Tidiness.{IsFree, KeepsTidy}
 use Rattle.mask_parts.proofs.Growing.{Grows-trans}
 use Rattle.mask_parts.proofs.Solving.{Solves-all, bits_of-with_gates, bits_of-with_outputs}
 use Rattle.mask_present.specs.Present.{Register, register, present}
-use Rattle.mask_present.specs.NamedPresent.{Stage, stage, key_added, block_substituted, block_moved, key_rotated, key_replaced, key_counted, key_updated, block_round, stage_after, rounds}
+use Rattle.mask_present.specs.Rounds.{Stage, stage, key_added, block_substituted, block_moved, key_rotated, key_replaced, key_counted, key_updated, block_round, stage_after, rounds}
 use Rattle.mask_present.proofs.Fitting.{IsShape-register, Fits, Fits-stage_after}
 use Rattle.mask_present.proofs.Knowing.{Below, Known, Known-block_round, Known-stage_after}
 use Rattle.mask_present.proofs.Lengthening.{Lengthens-block_round, Lengthens-key_updated, Lengthens-more, Lengthens-rounds}

@@ -8,7 +8,8 @@ use Rattle.mask_tasks.specs.declared.sizes.KeySize.TheVariants.{K80, K128}
 use Rattle.mask_circuit.specs.Netlist.{value_count}
 use Rattle.mask_parts.specs.PresentSbox.{sbox_results}
 use Rattle.mask_present.specs.Present.{Register, register}
-use Rattle.mask_present.specs.NamedPresent.{Stage, source, with_stretch, sboxes_results, moved, not_results, counter_values, key_added, block_substituted, block_moved, key_rotated, key_replaced, key_counted, key_updated, block_round, stage_after, rounds, start}
+use Rattle.mask_present.specs.NamedPresent.{start}
+use Rattle.mask_present.specs.Rounds.{Stage, source, with_stretch, sboxes_results, moved, not_results, counter_values, key_added, block_substituted, block_moved, key_rotated, key_replaced, key_counted, key_updated, block_round, stage_after, rounds}
 
 -- each of the nibbles from these places on does
 abbrev pub AllWithin : ℕ → List ℕ → Type 0

@@ -6,7 +6,7 @@ use Rattle.mask_bits.specs.Reading.{lowest}
 use Rattle.mask_circuit.specs.Netlist.{value_count}
 use Rattle.mask_parts.specs.PresentSbox.{sbox_results}
 use Rattle.mask_present.specs.Present.{Register}
-use Rattle.mask_present.specs.NamedPresent.{Stage, sboxes_results, source, moved, with_stretch, not_gates, not_results, counter_values, key_added, block_substituted, block_moved, key_rotated, key_replaced, key_counted}
+use Rattle.mask_present.specs.Rounds.{Stage, sboxes_results, source, moved, with_stretch, not_gates, not_results, counter_values, key_added, block_substituted, block_moved, key_rotated, key_replaced, key_counted}
 use Rattle.mask_present.proofs.Fitting.{Fits}
 use Rattle.mask_present.proofs.Permuting.{source-lt}
 

@@ -4,7 +4,7 @@ use Rattle.mask_parts.specs.Drafts.{Grows}
 use Rattle.mask_parts.specs.PresentSbox.{with_sbox}
 use Rattle.mask_parts.proofs.Growing.{Grows-refl, Grows-trans, Grows-with_gates}
 use Rattle.mask_present.specs.Present.{Register}
-use Rattle.mask_present.specs.NamedPresent.{Stage, xored, key_added, block_substituted, block_moved, key_rotated, key_replaced, key_counted, key_updated, block_round, stage_after, rounds}
+use Rattle.mask_present.specs.Rounds.{Stage, xored, key_added, block_substituted, block_moved, key_rotated, key_replaced, key_counted, key_updated, block_round, stage_after, rounds}
 
 -- one stage's draft grows into another's
 abbrev pub Lengthens : Stage → Stage → Type 0

@@ -5,7 +5,7 @@ use Rattle.std.specs.Int.Bits.{xor_zero_r}
 use Rattle.std.proofs.lemmas.List.{length-take-le, length-drop, take-append-drop, drop-drop}
 use Rattle.mask_circuit.specs.Value.{xor}
 use Rattle.mask_bits.specs.Reading.{number}
-use Rattle.mask_present.specs.NamedPresent.{with_stretch}
+use Rattle.mask_present.specs.Rounds.{with_stretch}
 use Rattle.mask_bits.proofs.Numbers.{number-append, number-lt}
 
 -- the number of a list is that of its first n bits and that of the others

@@ -5,7 +5,7 @@ use Rattle.std.specs.List.{range_with_len}
 use Rattle.std.proofs.lemmas.List.Sums.{sum_by-cons}
 use Rattle.mask_bits.specs.Reading.{number}
 use Rattle.mask_bits.proofs.Numbers.{bit-number, worth}
-use Rattle.mask_present.specs.NamedPresent.{source}
+use Rattle.mask_present.specs.Rounds.{source}
 use Rattle.mask_present.specs.Present.{place, permuted}
 
 either-lt : (b : Bool) (m : ℕ) → m < 63 → (if b then 63 else m) < 64

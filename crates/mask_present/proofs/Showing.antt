@@ -13,7 +13,7 @@ use Rattle.mask_parts.specs.PresentSbox.{sbox, sbox_gates, sbox_results, with_sb
 use Rattle.mask_parts.proofs.Substituting.{length-sbox_gates, sbox-solved}
 use Rattle.mask_parts.proofs.Solving.{Solves, Solves-left, Solves-right}
 use Rattle.mask_present.specs.Present.{Register, substituted, permuted, round_key, rotated, replaced, updated, register_after, block_after, encrypted}
-use Rattle.mask_present.specs.NamedPresent.{Stage, xor_gates, xored, sboxes, sboxes_results, source, moved, with_stretch, not_gates, not_results, counter_values, key_added, block_substituted, block_moved, key_rotated, key_replaced, key_counted, key_updated, block_round, stage_after, rounds}
+use Rattle.mask_present.specs.Rounds.{Stage, xor_gates, xored, sboxes, sboxes_results, source, moved, with_stretch, not_gates, not_results, counter_values, key_added, block_substituted, block_moved, key_rotated, key_replaced, key_counted, key_updated, block_round, stage_after, rounds}
 use Rattle.mask_present.proofs.Fitting.{IsShape, AllWithin, Fits, length-sbox_results, length-not_results, length-counter_values, Fits-key_added, Fits-block_substituted, Fits-block_moved, Fits-key_rotated, Fits-key_replaced, Fits-key_counted}
 use Rattle.mask_present.proofs.Lengthening.{Lengthens-block_substituted, Lengthens-nibbles, Lengthens-key_counted, Lengthens-key_updated, Lengthens-block_round, Lengthens-rounds}
 use Rattle.mask_present.proofs.NumberLaws.{xor_bits, number-xor_bits, number-take, number-drop, number-rotated, number-stretch, number-xor_stretch}

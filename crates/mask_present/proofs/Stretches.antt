@@ -2,7 +2,7 @@
 use Rattle.std.proofs.Common.{◌≡◌, ℕ, List, ◌++◌, length, take, ap}
 use Rattle.std.proofs.lemmas.List.{drop-drop}
 use borrow.Rule.Slice.PartMut.{put_mid}
-use Rattle.mask_present.specs.NamedPresent.{with_stretch}
+use Rattle.mask_present.specs.Rounds.{with_stretch}
 
 pub put_mid-stretch : (at n : ℕ) (xs ys zs : List ℕ) → ys ≡ zs → n ≡ length zs → put_mid at n xs ys ≡ with_stretch at zs xs
 unfolding with_stretch

@@ -15,7 +15,7 @@ use Rattle.mask_parts.specs.Tidiness.{IsFree, KeepsTidy}
 use Rattle.mask_parts.proofs.Growing.{value_count-with_gates, with_gates-nil, with_gates-with_gates, Grows-with_gates, AreGates-left}
 use Rattle.mask_parts.proofs.Keeping.{KeepsTidy-refl, KeepsTidy-then}
 use Rattle.mask_present.specs.Present.{Register}
-use Rattle.mask_present.specs.NamedPresent.{Stage, xor_gates, xored, sboxes, sboxes_results, not_gates, counter_values, key_added, block_substituted, block_moved, key_rotated, key_replaced, key_counted, key_updated, block_round, stage_after, rounds}
+use Rattle.mask_present.specs.Rounds.{Stage, xor_gates, xored, sboxes, sboxes_results, not_gates, counter_values, key_added, block_substituted, block_moved, key_rotated, key_replaced, key_counted, key_updated, block_round, stage_after, rounds}
 use Rattle.mask_present.proofs.Fitting.{IsShape, AllWithin, Fits, Fits-key_added, Fits-block_substituted, Fits-block_round, Fits-key_rotated, Fits-key_replaced, Fits-stage_after}
 use Rattle.mask_present.proofs.Counting.{Counts-xor_gates}
 use Rattle.mask_present.proofs.Lengthening.{Lengthens-key_added, Lengthens-block_substituted, Lengthens-block_round, Lengthens-key_replaced, Lengthens-nibbles, Lengthens-key_counted, Lengthens-key_updated}

@@ -9,7 +9,7 @@ use Rattle.mask_circuit.specs.Netlist.{Netlist, value_count}
 use Rattle.mask_parts.specs.Drafts.{with_gates, Grows, IsWithinLimits, Lays}
 use Rattle.mask_parts.proofs.Growing.{value_count-with_gates, with_gates-nil, with_gates-with_gates, Grows-refl, Grows-trans, Grows-with_gates}
 use Rattle.mask_present.specs.Present.{Register}
-use Rattle.mask_present.specs.NamedPresent.{Stage, stage, with_stretch, not_gates, not_results, key_rotated, key_replaced, key_counted}
+use Rattle.mask_present.specs.Rounds.{Stage, stage, with_stretch, not_gates, not_results, key_rotated, key_replaced, key_counted}
 use Rattle.mask_present.proofs.Knowing.{Below, Known, Known-key_replaced}
 use Rattle.mask_present.proofs.Lengthening.{Lengthens-key_replaced, Lengthens-nibbles}
 

@@ -1,6 +1,7 @@
 //! The block cipher PRESENT (ISO/IEC 29192-2) as a circuit, for keys of 80 and of 128 bits.
 //!
-//! `specs/Present.antt` is the cipher on numbers, and `specs/NamedPresent.antt` the circuits gate by gate.
+//! `specs/Present.antt` is the cipher on numbers, `specs/Rounds.antt` its rounds gate by gate, and `specs/NamedPresent.antt` the
+//! circuits.
 #![tactic(auto)]
 
 mod circuits;

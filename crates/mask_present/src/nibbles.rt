@@ -1,7 +1,7 @@
 //! Four neighbouring values of a list.
 
 ghost use Rattle.std.specs.Prelude.{◌≡◌, ◌+◌, ◌≤◌, length, take, drop};
-ghost use Rattle.mask_present.specs.NamedPresent.{with_stretch};
+ghost use Rattle.mask_present.specs.Rounds.{with_stretch};
 
 /// The four values from place `at` on.
 pub(crate) fn nibble(values: &[u32], at: usize) -> [u32; 4]

@@ -5,7 +5,7 @@ ghost use Rattle.std.specs.List.{range_with_len};
 ghost use Rattle.mask_circuit.specs.declared.gates.Gate.TheVariants.{Xor};
 ghost use Rattle.mask_circuit.specs.Netlist.{value_count};
 ghost use Rattle.mask_parts.specs.Drafts.{Lays, with_gates};
-ghost use Rattle.mask_present.specs.NamedPresent.{xored, sboxes, sboxes_results, source, moved};
+ghost use Rattle.mask_present.specs.Rounds.{xored, sboxes, sboxes_results, source, moved};
 
 use crate::nibbles::{nibble, set_nibble};
 use mask_circuit::{Builder, CircuitError};

@@ -7,7 +7,7 @@ ghost use Rattle.mask_circuit.specs.Acceptance.{IsTidy};
 ghost use Rattle.mask_parts.specs.Drafts.{Lays, bits_of};
 ghost use Rattle.mask_parts.specs.Tidiness.{IsFree, KeepsTidy};
 ghost use Rattle.mask_present.specs.Present.{register, present};
-ghost use Rattle.mask_present.specs.NamedPresent.{stage, key_added, block_round, rounds};
+ghost use Rattle.mask_present.specs.Rounds.{stage, key_added, block_round, rounds};
 
 use crate::round::{moved, substituted, xor_blocks};
 use crate::schedule::update;

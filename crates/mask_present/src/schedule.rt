@@ -5,7 +5,7 @@ ghost use Rattle.mask_bits.specs.Reading.{lowest};
 ghost use Rattle.mask_circuit.specs.Netlist.{value_count};
 ghost use Rattle.mask_parts.specs.Drafts.{Lays, with_gates};
 ghost use Rattle.mask_present.specs.Present.{register};
-ghost use Rattle.mask_present.specs.NamedPresent.{stage, with_stretch, not_gates, not_results, key_replaced, key_updated};
+ghost use Rattle.mask_present.specs.Rounds.{stage, with_stretch, not_gates, not_results, key_replaced, key_updated};
 
 use crate::nibbles::{nibble, set_nibble};
 use mask_bits::bit_of;

@@ -6,7 +6,8 @@ use Rattle.mask_parts.specs.Drafts.{Grows}
 use Rattle.mask_parts.proofs.Growing.{Grows-refl, Grows-trans}
 use Rattle.mask_parts.proofs.Laying.{Lays-exit, Lays-last}
 use Rattle.mask_present.specs.Present.{register}
-use Rattle.mask_present.specs.NamedPresent.{Stage, stage, rounds, start, encrypted_message, named_of, named_present}
+use Rattle.mask_present.specs.NamedPresent.{start, encrypted_message, named_of, named_present}
+use Rattle.mask_present.specs.Rounds.{Stage, stage, rounds}
 use Rattle.mask_present.proofs.Concluding.{stage-start, known-inputs, begun-end, known-end, known-messages, known-sums, Grows-end, Grows-named}
 use Rattle.mask_present.proofs.Fitting.{IsShape-register}
 use Rattle.mask_present.proofs.circuits.lay_on.Goals as goal

@@ -1,6 +1,6 @@
 use Rattle.std.proofs.Common.{rules, slice_index}
 use Rattle.std.proofs.lemmas.List.FromFn.{fill_by_all}
-use Rattle.mask_present.specs.NamedPresent.{source, moved}
+use Rattle.mask_present.specs.Rounds.{source, moved}
 use Rattle.mask_present.proofs.round.moved.Goals as goal
 
 pub returns : goal.returns

@@ -1,5 +1,5 @@
 use Rattle.std.proofs.Common.{◌≡◌, ℕ, ◌<◌, length, slice_index}
-use Rattle.mask_present.specs.NamedPresent.{source}
+use Rattle.mask_present.specs.Rounds.{source}
 use Rattle.mask_present.proofs.round.moved.Given as goal
 
 abbrev pub invariant-loop-i : goal.invariant-loop-i

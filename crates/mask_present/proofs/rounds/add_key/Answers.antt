@@ -1,7 +1,7 @@
 use Rattle.std.proofs.Common.{◌≡◌, ◌-◌, ℕ, length, take, drop, ap, ◌∙◌}
 use Rattle.std.proofs.lemmas.List.{take_rest}
 use Rattle.mask_present.specs.Present.{register}
-use Rattle.mask_present.specs.NamedPresent.{stage, key_added}
+use Rattle.mask_present.specs.Rounds.{stage, key_added}
 use Rattle.mask_present.proofs.rounds.add_key.Goals as goal
 
 pub returns : goal.returns

@@ -2,7 +2,7 @@ use Rattle.std.proofs.Common.{ap, ◌∙◌}
 use Rattle.mask_parts.proofs.Growing.{Grows-refl}
 use Rattle.mask_parts.proofs.Laying.{Lays-exit}
 use Rattle.mask_present.specs.Present.{register}
-use Rattle.mask_present.specs.NamedPresent.{stage, moved, key_added, block_substituted, block_moved, block_round}
+use Rattle.mask_present.specs.Rounds.{stage, moved, key_added, block_substituted, block_moved, block_round}
 use Rattle.mask_present.proofs.Encrypting.{Fits-stage, Known-stage}
 use Rattle.mask_present.proofs.Fitting.{IsShape-register}
 use Rattle.mask_present.proofs.Knowing.{Known-key_added}

@@ -1,7 +1,7 @@
 use Rattle.std.proofs.Common.{ap, arith}
 use Rattle.mask_parts.proofs.Laying.{IsWithinLimits-circuit, IsRefused-within, Lays-last}
 use Rattle.mask_present.specs.Present.{register}
-use Rattle.mask_present.specs.NamedPresent.{Stage, stage}
+use Rattle.mask_present.specs.Rounds.{Stage, stage}
 use Rattle.mask_present.proofs.Encrypting.{Fits-stage, Known-stage, HasRun-none, HasRun-more, key-run, block-run, key-block_run, begun-run, begun-block_run, left-block_run, left-update_run, whole-run}
 use Rattle.mask_present.proofs.rounds.rounds.Goals as goal
 

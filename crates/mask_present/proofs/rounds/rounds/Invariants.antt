@@ -1,5 +1,5 @@
 use Rattle.mask_present.specs.Present.{register}
-use Rattle.mask_present.specs.NamedPresent.{stage}
+use Rattle.mask_present.specs.Rounds.{stage}
 use Rattle.mask_present.proofs.Encrypting.{HasRun}
 use Rattle.mask_present.proofs.rounds.rounds.Given as goal
 

@@ -2,7 +2,7 @@ use Rattle.std.proofs.Common.{◌≡◌, ◌+◌, ◌-◌, length, take, drop, s
 use Rattle.std.proofs.lemmas.List.{length-take-le, length-drop}
 use Rattle.mask_bits.specs.Reading.{lowest}
 use Rattle.mask_circuit.specs.Netlist.{value_count}
-use Rattle.mask_present.specs.NamedPresent.{not_results}
+use Rattle.mask_present.specs.Rounds.{not_results}
 use Rattle.mask_present.proofs.Fitting.{length-not_results}
 use Rattle.mask_present.proofs.Stretches.{put_mid-stretch}
 use Rattle.mask_present.proofs.schedule.count_round.Goals as goal

@@ -2,7 +2,7 @@ use Rattle.std.proofs.Common.{refl}
 use Rattle.mask_circuit.specs.declared.gates.Gate.TheVariants.{Not}
 use Rattle.mask_parts.proofs.Growing.{with_gates-nil}
 use Rattle.mask_parts.proofs.Laying.{IsWithinLimits-circuit, Lays-from_gate}
-use Rattle.mask_present.specs.NamedPresent.{not_gates}
+use Rattle.mask_present.specs.Rounds.{not_gates}
 use Rattle.mask_present.proofs.schedule.not_if.Goals as goal
 
 pub returns-then-flag : goal.returns-then-flag

@@ -1,7 +1,7 @@
 use Rattle.std.proofs.Common.{refl}
 use Rattle.mask_parts.proofs.Growing.{Grows-refl}
 use Rattle.mask_parts.proofs.Laying.{Lays-exit}
-use Rattle.mask_present.specs.NamedPresent.{stage, key_replaced}
+use Rattle.mask_present.specs.Rounds.{stage, key_replaced}
 use Rattle.mask_present.proofs.schedule.replace_nibble.Goals as goal
 
 pub returns-in_err-replaced-clause-laid : goal.returns-in_err-replaced-clause-laid

@@ -5,7 +5,7 @@ use Rattle.mask_parts.specs.Drafts.{Grows}
 use Rattle.mask_parts.proofs.Growing.{Grows-refl}
 use Rattle.mask_parts.proofs.Laying.{Lays-exit, Lays-last}
 use Rattle.mask_present.specs.Present.{register}
-use Rattle.mask_present.specs.NamedPresent.{Stage, stage, key_rotated, key_replaced, key_updated}
+use Rattle.mask_present.specs.Rounds.{Stage, stage, key_rotated, key_replaced, key_updated}
 use Rattle.mask_present.proofs.Knowing.{Below, Known, Known-nibbles, Known-key_rotated}
 use Rattle.mask_present.proofs.Lengthening.{Lengthens-nibbles, Lengthens-key_counted}
 use Rattle.mask_present.proofs.Updates.{known-stage, rotated-stage, Lays-key_counted, key-key_counted}
