@@ -19,7 +19,7 @@ pub fn product(b: &mut Builder, u: u32, v: u32) -> Result<u32, CircuitError>
         value_at (plain_values b.new x) w ≡ (value_at (plain_values b.old x) u && value_at (plain_values b.old x) v)) }
     ensures tidy { IfOk result (λ w. IsTidy b.old → IsFree b.old u → IsFree b.old v → KeepsTidy b.old b.new (w ∷ [])) }
 {
-    let _first = b.values();
+    let _values = b.values();
     let fresh = b.refresh(v)?;
     b.and(u, fresh)
 }

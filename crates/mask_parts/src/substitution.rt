@@ -1,6 +1,6 @@
 //! The S-box of PRESENT.
 
-ghost use Rattle.std.specs.Prelude.{◌≡◌, ℕ, ◌<◌, Bool, List, length, All, IfOk};
+ghost use Rattle.std.specs.Prelude.{◌≡◌, ℕ, ◌<◌, ◌≤◌, Bool, List, length, All, IfOk};
 ghost use Rattle.mask_bits.specs.Reading.{number};
 ghost use Rattle.mask_circuit.specs.Netlist.{value_count};
 ghost use Rattle.mask_circuit.specs.Acceptance.{IsTidy};
@@ -22,7 +22,15 @@ pub fn sbox4_present(b: &mut Builder, x: [u32; 4]) -> Result<[u32; 4], CircuitEr
     ensures tidy { IfOk result (λ y. IsTidy b.old → All (λ u. IsFree b.old u) x → KeepsTidy b.old b.new y) }
 {
     let first = lay(b, &x, &steps())?;
-    Ok([first + 16, first + 17, first + 21, first + 25])
+    Ok(results(first))
+}
+
+// The values of the result's bits, where the first step makes value `first`.
+fn results(first: u32) -> [u32; 4]
+    requires { first ≤ 1_000_000 }
+    ensures { result ≡ sbox_results first }
+{
+    [first + 16, first + 17, first + 21, first + 25]
 }
 
 // Behind each step stands the number of the value that it makes.

@@ -19,7 +19,7 @@ returns-in_err-fresh-clause-laid c =
     let refused = c.in_err-fresh.ensures in
     Lays-exit b b (with_gates b (Ref c.args.v ∷ [])) c.refresh.new.self _ _ c.from_residual.result e c.from_residual.ensures.1 (Grows-refl b)
     (Grows-first_gates b (Ref c.args.v ∷ []) (And c.args.u (value_count b) ∷ []))
-    (Lays-from_gate b (Ref c.args.v) c.refresh.new.self (Err e) (IsWithinLimits-circuit b c.values-first.ensures.circuit) refused.made refused.full refused.same)
+    (Lays-from_gate b (Ref c.args.v) c.refresh.new.self (Err e) (IsWithinLimits-circuit b c.values-values.ensures.circuit) refused.made refused.full refused.same)
 
 pub returns-clause-laid : goal.returns-clause-laid
 returns-clause-laid c =
@@ -27,7 +27,7 @@ returns-clause-laid c =
     let n = value_count b in
     let d = c.refresh.new.self in
     let told = c.in_ok-fresh.ensures in
-    let first = Lays-from_gate b (Ref c.args.v) d (Ok c.in_ok-fresh.fresh) (IsWithinLimits-circuit b c.values-first.ensures.circuit) told.made told.full told.same in
+    let first = Lays-from_gate b (Ref c.args.v) d (Ok c.in_ok-fresh.fresh) (IsWithinLimits-circuit b c.values-values.ensures.circuit) told.made told.full told.same in
     let gate = And c.args.u c.in_ok-fresh.fresh ∷ [] in
     let all : with_gates d gate ≡ with_gates b (product_gates n c.args.u c.args.v) =
     ap₂ (λ (x : Netlist) (w : ℕ). with_gates x (And c.args.u w ∷ [])) first.1 first.0 ∙ with_gates-with_gates b (Ref c.args.v ∷ []) (And c.args.u n ∷ []) in
@@ -50,4 +50,4 @@ returns-clause-tidy c =
     IfOk-from_Lays b _ c.and.new.self (value_count b + 1) c.and.result
     (λ w d. IsTidy b → IsFree b c.args.u → IsFree b c.args.v → KeepsTidy b d (w ∷ []))
     (returns-clause-laid c)
-    (λ tidy u_free v_free. KeepsTidy-product b c.args.u c.args.v c.values-first.ensures.circuit.formed.gates c.requires.u_known c.requires.v_known u_free v_free tidy)
+    (λ tidy u_free v_free. KeepsTidy-product b c.args.u c.args.v c.values-values.ensures.circuit.formed.gates c.requires.u_known c.requires.v_known u_free v_free tidy)

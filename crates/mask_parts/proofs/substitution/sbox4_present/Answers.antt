@@ -31,44 +31,28 @@ returns-in_err-first-clause-laid c =
     Lays-exit b b part c.lay.new.b (with_sbox b c.args.x) _ c.from_residual.result c.in_err-first.field-0.0 c.from_residual.ensures.1 (Grows-refl b)
     (subst (Grows part) (same_draft b c.args.x c.steps.result c.steps.ensures) (Grows-refl part)) c.in_err-first.ensures.laid
 
-pub overflow_add-result : goal.overflow_add-result
-overflow_add-result c =
+pub results-requires : goal.results-requires
+results-requires c =
     let laid = c.in_ok-first.ensures.laid in
-    let fits = room c.args.b.now c.args.x c.in_ok-first.first laid.0 (subst IsWithinLimits (same_draft _ _ _ c.steps.ensures) laid.2) in omega arith
-
-pub overflow_add-result-2 : goal.overflow_add-result-2
-overflow_add-result-2 c =
-    let laid = c.in_ok-first.ensures.laid in
-    let fits = room c.args.b.now c.args.x c.in_ok-first.first laid.0 (subst IsWithinLimits (same_draft _ _ _ c.steps.ensures) laid.2) in omega arith
-
-pub overflow_add-result-3 : goal.overflow_add-result-3
-overflow_add-result-3 c =
-    let laid = c.in_ok-first.ensures.laid in
-    let fits = room c.args.b.now c.args.x c.in_ok-first.first laid.0 (subst IsWithinLimits (same_draft _ _ _ c.steps.ensures) laid.2) in omega arith
-
-pub overflow_add-result-4 : goal.overflow_add-result-4
-overflow_add-result-4 c =
-    let laid = c.in_ok-first.ensures.laid in
-    let fits = room c.args.b.now c.args.x c.in_ok-first.first laid.0 (subst IsWithinLimits (same_draft _ _ _ c.steps.ensures) laid.2) in omega arith
+    let fits = room c.args.b.now c.args.x c.in_ok-first.first laid.0 (subst IsWithinLimits (same_draft c.args.b.now c.args.x c.steps.result c.steps.ensures) laid.2) in
+    omega arith
 
 pub returns-clause-laid : goal.returns-clause-laid
-unfolding sbox_results
 returns-clause-laid c =
     let laid = c.in_ok-first.ensures.laid in
     let same = same_draft c.args.b.now c.args.x c.steps.result c.steps.ensures in
-    (ap sbox_results laid.0, laid.1 ∙ same, subst IsWithinLimits same laid.2)
+    (c.results.ensures ∙ ap sbox_results laid.0, laid.1 ∙ same, subst IsWithinLimits same laid.2)
 
 pub returns-clause-plain : goal.returns-clause-plain
-unfolding sbox_results
 returns-clause-plain c =
     let laid = c.in_ok-first.ensures.laid in
     let four : length c.args.x ≡ 4 = search rules in
     let all = laid.1 ∙ same_draft c.args.b.now c.args.x c.steps.result c.steps.ensures in
-    λ input long. rw (all, laid.0) (number-with_sbox c.args.b.now c.args.x input four c.requires long)
+    λ input long. rw (all, c.results.ensures, laid.0) (number-with_sbox c.args.b.now c.args.x input four c.requires long)
 
 pub returns-clause-tidy : goal.returns-clause-tidy
-unfolding sbox_results
 returns-clause-tidy c =
     λ tidy free. (let kept = c.in_ok-first.ensures.tidy tidy free in
-    KeepsTidy-sbox_results c.args.b.now c.lay.new.b c.in_ok-first.first kept.0
-    (subst (λ (ss : List Step). (k : ℕ) → value_at (part_usable ss) k ≡ true → IsFree c.lay.new.b (c.in_ok-first.first + k)) c.steps.ensures kept.1))
+    rw c.results.ensures
+    (KeepsTidy-sbox_results c.args.b.now c.lay.new.b c.in_ok-first.first kept.0
+    (subst (λ (ss : List Step). (k : ℕ) → value_at (part_usable ss) k ≡ true → IsFree c.lay.new.b (c.in_ok-first.first + k)) c.steps.ensures kept.1)))
