@@ -9,6 +9,7 @@ pub mod Lengthening
 pub mod NumberLaws
 pub mod Permuting
 mod PresentVectors
+mod RoundExamples
 pub mod Showing
 pub mod Stretches
 pub mod Tidying

@@ -13,3 +13,6 @@ mod schedule;
 pub use circuits::present_circuit;
 pub use mask_tasks::KeySize;
 pub use rounds::present_rounds;
+
+#[cfg(test)]
+mod tests;
