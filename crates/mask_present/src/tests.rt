@@ -21,9 +21,13 @@ fn counted_circuit<L: Ledger>(
     present_circuit(alloc, size, &mut steps)
 }
 
+fn try_circuit(alloc: Global, size: KeySize) -> Result<Strong, AllocError> {
+    counted_circuit::<Brand>(alloc, Blank::new(1), size)
+}
+
 // Inputs, values, products, refreshes and outputs.
 fn sizes(alloc: Global, size: KeySize) -> Result<[u32; 5], AllocError> {
-    let strong = counted_circuit::<Brand>(alloc, Blank::new(1), size)?;
+    let strong = try_circuit(alloc, size)?;
     let circuit = strong.admitted().circuit();
     Ok([
         circuit.inputs(),
