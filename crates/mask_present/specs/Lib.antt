@@ -1,0 +1,3 @@
+pub mod NamedPresent
+pub mod Present
+pub mod Rounds
