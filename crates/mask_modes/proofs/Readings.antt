@@ -1,12 +1,12 @@
 -- The low-first and the high-first reading are readings, and counters are numbers.
-use Rattle.std.proofs.Common.{◌≡◌, ℕ, zero, suc, ◌+◌, ◌-◌, ◌*◌, ◌/◌, ◌%◌, ◌^◌, ◌<◌, Bool, nat_eq, List, [], ◌∷◌, ◌++◌, length, take, drop, reverse, get_or, inl, inr, refl, ap, ap₂, sym, subst, ◌∙◌, arith, add-zero, add-suc, append_assoc}
+use Rattle.std.proofs.Common.{◌≡◌, ℕ, zero, suc, ◌+◌, ◌-◌, ◌*◌, ◌/◌, ◌%◌, ◌^◌, ◌<◌, Bool, false, nat_eq, List, [], ◌∷◌, ◌++◌, length, take, drop, reverse, get_or, inl, inr, refl, ap, ap₂, sym, subst, ◌∙◌, arith, add-zero, add-suc, append_assoc}
 use Rattle.std.proofs.Math.Nat.{mod-eq_of_lt}
 use Rattle.std.proofs.lemmas.List.{append-nil, take_at, drop_at, length-reverse, reverse-append, reverse-reverse, get_or-reverse, get_or_past}
 use Rattle.std.proofs.lemmas.Bool.{cases_lt}
 use Rattle.std.proofs.lemmas.Nat.{shr-shr}
 use Rattle.std.proofs.lemmas.List.Elements.{All-tail}
 use Rattle.mask_bits.specs.Reading.{high, bit, lowest, low, number}
-use Rattle.mask_bits.proofs.Bytes.{length-low, low-push, number-high}
+use Rattle.mask_bits.proofs.Bytes.{length-low, low-place, low-push, number-high}
 use Rattle.mask_bits.proofs.Numbers.{length-lowest, number-lowest, lowest-of}
 use Rattle.mask_circuit.specs.Wires.{each}
 use Rattle.mask_gadget.proofs.Made.{each-same}
@@ -37,6 +37,14 @@ AreBytes-reverse : (xs : List ℕ) → AreBytes xs → AreBytes (reverse xs)
 AreBytes-reverse xs small k d lt =
     let within : k < length xs = omega (arith, length-reverse xs) in
     subst (λ (byte : ℕ). byte < 2 ^ 8) (sym (get_or-reverse xs k d within)) (small (length xs - 1 - k) d (omega arith))
+
+-- bit p of byte k, read high first
+high-place : (xs : List ℕ) (k p : ℕ) → k < length xs → p < 8 → get_or (high xs) (8 * (length xs - 1 - k) + p) false ≡ bit p (get_or xs k 0)
+high-place xs k p lt few =
+    let turned : length xs - 1 - k < length xs = omega arith in
+    let back : length xs - 1 - (length xs - 1 - k) ≡ k = omega arith in
+    low-place (reverse xs) (length xs - 1 - k) p (omega (arith, length-reverse xs)) few
+    ∙ ap (bit p) (get_or-reverse xs (length xs - 1 - k) 0 turned ∙ ap (λ (j : ℕ). get_or xs j 0) back)
 
 -- COUNTERS
 
@@ -102,6 +110,8 @@ bytes_are_read = record {
         ∙ ap reverse (low_one_to_one (reverse xs) (reverse ys) (AreBytes-reverse xs small) (AreBytes-reverse ys small') same)
         ∙ reverse-reverse ys;
   };
+  low_place = low-place;
+  high_place = high-place;
   number = λ b iv i.
       sym (number-high (counter b iv i) (byte_at (counter b iv i) (counter_bytes b iv i)))
       ∙ ap number (high-counter b iv i)
