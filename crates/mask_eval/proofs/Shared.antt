@@ -1,6 +1,6 @@
 -- Words shared with coins: step by step, lane by lane, and what the shares stand for.
-use Rattle.std.proofs.Common.{◌≡◌, ℕ, suc, ◌+◌, ◌*◌, ◌<◌, Bool, List, [], ◌∷◌, ◌++◌, length, map, take, drop, get_or, fold, refl, ap, ap₂, sym, ◌∙◌, arith, length-drop}
-use Rattle.std.proofs.lemmas.List.{take_more, take-take, drop-take, drop-drop, get_or-drop, take-map, drop-map}
+use Rattle.std.proofs.Common.{◌≡◌, ℕ, suc, ◌+◌, ◌*◌, ◌<◌, Bool, List, [], ◌∷◌, ◌++◌, length, map, take, drop, get_or, set, fold, refl, ap, ap₂, sym, ◌∙◌, arith, length-drop, append_assoc}
+use Rattle.std.proofs.lemmas.List.{take_more, take_more_set, drop-drop, get_or-drop, take-map, drop-map, length-take-le}
 use Rattle.mask_circuit.specs.Value.{xor}
 use Rattle.mask_bits.specs.Reading.{bit}
 use Rattle.mask_bits.specs.Lanes.{lane}
@@ -78,3 +78,26 @@ module _ {X : Type 0} (R : Ring X) where
   pub length-all_shared : (d : ℕ) (xs coins : List X) → length (all_shared R d xs coins) ≡ length xs
   length-all_shared d [] coins = refl
   length-all_shared d (x ∷ xs) coins = ap suc (length-all_shared d xs (drop d coins))
+
+-- one word more is shared, behind values that stay
+pub shared_more : (d k start used : ℕ) (ws coins : List ℕ) (values front : List (List ℕ)) (shares : List ℕ) → k < length ws → start + k < length values →
+    take (start + k) values ≡ front ++ all_shared words d (take k ws) (drop used coins) →
+    shares ≡ shared words (get_or ws k 0) (take d (drop (used + d * k) coins)) →
+    take (start + (k + 1)) (set values (start + k) shares) ≡ front ++ all_shared words d (take (k + 1) ws) (drop used coins)
+shared_more d k start used ws coins values front shares lt room before made =
+    ap (λ (n : ℕ). take n (set values (start + k) shares)) more
+    ∙ take_more_set values (start + k) shares room
+    ∙ ap (λ (vs : List (List ℕ)). vs ++ shares ∷ []) before
+    ∙ append_assoc front (all_shared words d (take k ws) (drop used coins)) (shares ∷ [])
+    ∙ ap (λ (vs : List (List ℕ)). front ++ vs)
+    (ap (λ (v : List ℕ). all_shared words d (take k ws) (drop used coins) ++ v ∷ [])
+    (made ∙ ap (λ (cs : List ℕ). shared words (get_or ws k 0) (take d cs)) there)
+    ∙ sym (all_shared-push words d (take k ws) (get_or ws k 0) (drop used coins))
+    ∙ ap (λ (xs : List ℕ). all_shared words d xs (drop used coins)) (sym (take_more ws k 0 lt)))
+  where
+    more : start + (k + 1) ≡ start + k + 1
+    more = omega arith
+
+    there : drop (used + d * k) coins ≡ drop (d * length (take k ws)) (drop used coins)
+    there =
+        sym (drop-drop (d * k) used coins) ∙ ap (λ (n : ℕ). drop (d * n) (drop used coins)) (sym (length-take-le k ws (omega arith)))

@@ -10,11 +10,7 @@ ghost use Rattle.mask_gadget.specs.Wiring.{told_more};
 use crate::wiring::Wiring;
 
 /// A value that all may know: share 0 is the word, and the others are 0.
-pub(crate) fn constant<const N: usize, W: Wiring>(
-    word: u64,
-    out: &mut [W::Word; N],
-    wires: &mut W,
-)
+pub(crate) fn constant<const N: usize, W: Wiring>(word: u64, out: &mut [W::Word; N], wires: &mut W)
     requires some { 0 < N }
     requires few { N ≤ 8 }
     requires room { N ≤ W.room wires.old }

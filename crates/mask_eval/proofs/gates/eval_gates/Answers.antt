@@ -77,7 +77,7 @@ loop-k-preserved g c =
     let is : out ≡ gate_out words N gate (all_listed words values) (take d (drop coins.used coins.words)) =
     c.gate_on.ensures.shares ∙ out-earlier words N c.requires.some n gate values before (take d (drop coins.used coins.words)) are.0 front in
     let now : W.told c.gate_on.new.wires
-        ≡ told_more (W.told c.loop-k.wires) (gate_wires words N gate (all_listed words values) (take d (drop coins.used coins.words))) =
+    ≡ told_more (W.told c.loop-k.wires) (gate_wires words N gate (all_listed words values) (take d (drop coins.used coins.words))) =
     c.gate_on.ensures.told
     ∙ ap (told_more (W.told c.loop-k.wires)) (wires-earlier words N c.requires.some n gate values before (take d (drop coins.used coins.words)) are.0 front) in
     let written : c.split_at_mut-before.result.0.now ++ set c.split_at_mut-before.result.1.now 0 c.gate_on.new.out ≡ set c.loop-k.values n c.gate_on.new.out =

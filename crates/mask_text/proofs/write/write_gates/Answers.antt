@@ -19,7 +19,7 @@ returns-in_err-write_all-clause-sends g c =
     let piece : c.deref.result.now ≡ spaced (line_words (Makes (get_or c.args.gates.now c.loop-gate.gate-index Zero))) ++ 10 ∷ [] = cc in
     let stopped = err_from_is_err_and c.from_residual.result c.from_residual.ensures.1 in
     rw stopped.1 (line-stopped Makes c.args.gates.now c.loop-gate.gate-index (get_or c.args.gates.now c.loop-gate.gate-index Zero) Zero
-          c.loop-gate-test.true refl _ _ _ c.deref.result.now _ piece c.loop-gate.invariant.sent c.in_err-write_all.ensures.part)
+    c.loop-gate-test.true refl _ _ _ c.deref.result.now _ piece c.loop-gate.invariant.sent c.in_err-write_all.ensures.part)
 
 pub returns-clause-sends : goal.returns-clause-sends
 returns-clause-sends g c = lines-sent Makes c.args.gates.now c.loop-gate.gate-index _ _ _ (omega arith) c.loop-gate.invariant.sent

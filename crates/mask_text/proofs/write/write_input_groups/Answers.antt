@@ -29,8 +29,8 @@ returns-in_err-write_all-clause-sends g c =
     ∙ ap (λ (h : NamedGroup). spaced (line_words (Input h.name h.size)) ++ 10 ∷ []) c.group.view_is in
     let stopped = err_from_is_err_and c.from_residual.result c.from_residual.ensures.1 in
     rw stopped.1 (line-stopped (λ g. Input g.name g.size) c.args.groups.now c.loop-group.group-index c.group-item.result c.group-item.result
-          c.loop-group-test.true c.group-item.is _ _ _ c.deref.result.now _ piece c.loop-group.invariant.sent
-          c.in_err-write_all.ensures.part)
+    c.loop-group-test.true c.group-item.is _ _ _ c.deref.result.now _ piece c.loop-group.invariant.sent
+    c.in_err-write_all.ensures.part)
 
 pub returns-clause-sends : goal.returns-clause-sends
 returns-clause-sends g c = lines-sent (λ g. Input g.name g.size) c.args.groups.now c.loop-group.group-index _ _ _ (omega arith)

@@ -43,8 +43,8 @@ returns-in_err-write_all-clause-sends g c =
     ∙ ap (λ (h : NamedGroup). spaced (line_words (Output h.name h.size)) ++ 10 ∷ []) c.group.view_is in
     let stopped = err_from_is_err_and c.from_residual.result c.from_residual.ensures.1 in
     rw stopped.1 (group-stopped c.args.groups.now c.loop-group.group-index c.group-item.result c.group-item.result c.loop-group-test.true
-          c.group-item.is _ _ _ c.loop-group.rest.now c.deref.result.now _ piece c.loop-group.invariant.sent
-          c.in_err-write_all.ensures.part)
+    c.group-item.is _ _ _ c.loop-group.rest.now c.deref.result.now _ piece c.loop-group.invariant.sent
+    c.in_err-write_all.ensures.part)
 
 pub returns-in_err-write_outs-clause-sends : goal.returns-in_err-write_outs-clause-sends
 returns-in_err-write_outs-clause-sends g c =

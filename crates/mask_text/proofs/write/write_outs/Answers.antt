@@ -18,7 +18,7 @@ returns-in_err-write_all-clause-sends g c =
     let piece : c.deref.result.now ≡ spaced (line_words (Out (get_or c.args.outputs.now c.loop-value.value-index 0))) ++ 10 ∷ [] = cc in
     let stopped = err_from_is_err_and c.from_residual.result c.from_residual.ensures.1 in
     rw stopped.1 (line-stopped Out c.args.outputs.now c.loop-value.value-index (get_or c.args.outputs.now c.loop-value.value-index 0) 0
-          c.loop-value-test.true refl _ _ _ c.deref.result.now _ piece c.loop-value.invariant.sent c.in_err-write_all.ensures.part)
+    c.loop-value-test.true refl _ _ _ c.deref.result.now _ piece c.loop-value.invariant.sent c.in_err-write_all.ensures.part)
 
 pub returns-clause-sends : goal.returns-clause-sends
 returns-clause-sends g c = lines-sent Out c.args.outputs.now c.loop-value.value-index _ _ _ (omega arith) c.loop-value.invariant.sent

@@ -1,5 +1,5 @@
 -- How many bits an evaluation draws at most.
-use Rattle.std.proofs.Common.{ℕ, zero, suc, ◌+◌, ◌*◌, ◌/◌, ◌^◌, ◌≤◌, cond, List, [], ◌∷◌, length, arith, lit≤}
+use Rattle.std.proofs.Common.{ℕ, zero, suc, ◌+◌, ◌*◌, ◌/◌, ◌≤◌, cond, List, [], ◌∷◌, length, arith, lit≤}
 use Rattle.std.specs.List.{count_by}
 use Rattle.std.proofs.lemmas.List.Sums.{sum_by-cons}
 use Rattle.std.proofs.Math.Nat.{mul-le-mul_right}
@@ -34,11 +34,9 @@ few_pairs (suc (suc (suc (suc (suc (suc zero)))))) h = lit≤ tt
 few_pairs (suc (suc (suc (suc (suc (suc (suc zero))))))) h = lit≤ tt
 few_pairs (suc (suc (suc (suc (suc (suc (suc (suc d)))))))) h = absurd (omega arith)
 
-pub bits_bound : (d n m : ℕ) → d ≤ 7 → n ≤ 1000000 → m ≤ 1000000 → d * n + (d + 1) * d / 2 * m ≤ 2 ^ 33
-bits_bound d n m few inputs gates =
+-- and an evaluation draws few coins in each lane
+pub few_coins : (d n m : ℕ) → d ≤ 7 → n ≤ 1000000 → m ≤ 1000000 → d * n + (d + 1) * d / 2 * m ≤ 35000000
+few_coins d n m few inputs gates =
     let shares : d * n ≤ 7 * n = mul-le-mul_right n few in
     let draws : (d + 1) * d / 2 * m ≤ 28 * m = mul-le-mul_right m (few_pairs d few) in
     omega arith
-
-pub shares_bound : (d n : ℕ) → d ≤ 7 → n ≤ 1000000 → d * n ≤ 7000000
-shares_bound d n few inputs = let shares : d * n ≤ 7 * n = mul-le-mul_right n few in omega arith

@@ -1,7 +1,7 @@
 use Rattle.std.proofs.Common.{◌≡◌, [], ◌∷◌, ◌++◌, length, ◌∙◌, arith}
 use Rattle.std.proofs.lemmas.List.{take-append-le, length_push}
 use Rattle.mask_eval.proofs.Lists.{added_more}
-use Rattle.mask_eval.proofs.listing.add_blanks.Goals as goal
+use Rattle.mask_eval.proofs.listing.push_blanks.Goals as goal
 
 pub loop-preserved : goal.loop-preserved
 loop-preserved c =

@@ -1,6 +1,6 @@
 use Rattle.std.proofs.Common.{◌≡◌, ◌≤◌, length, take}
 use Rattle.mask_eval.specs.Listing.{Added}
-use Rattle.mask_eval.proofs.listing.add_blanks.Given as goal
+use Rattle.mask_eval.proofs.listing.push_blanks.Given as goal
 
 abbrev pub invariant-loop : goal.invariant-loop
 invariant-loop l = record {
