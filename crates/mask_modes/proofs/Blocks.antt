@@ -23,7 +23,7 @@ block_at_is_block m part j are =
           (All-append byte (drop (j * m.block) part) (replicate m.block 0) (All-drop byte (j * m.block) part are) (All-replicate byte m.block 0 (omega arith))),
     )
 
-xor_bytes_are_bytes : (xs ys : List ℕ) → AreBytes xs → AreBytes ys → AreBytes (xor_bytes xs ys)
+pub xor_bytes_are_bytes : (xs ys : List ℕ) → AreBytes xs → AreBytes ys → AreBytes (xor_bytes xs ys)
 xor_bytes_are_bytes [] ys are are' = All-nil (λ b. b < 2 ^ 8)
 xor_bytes_are_bytes (x ∷ xs) [] are are' = All-nil (λ b. b < 2 ^ 8)
 xor_bytes_are_bytes (x ∷ xs) (y ∷ ys) are are' =

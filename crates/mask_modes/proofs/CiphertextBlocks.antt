@@ -79,7 +79,7 @@ module _ (b iv : ℕ) (cipher : List ℕ → List ℕ) (some : 0 < b) (makes : M
       ∙ ap (take (length part))
       (sym (joined_xors (block_at b part) (λ j. cipher (counter b iv (i + j))) b n (length-block_at b part) (λ j. makes (i + j))))
 
-  ciphertext_byte : (i : ℕ) (part : List ℕ) (k : ℕ) → k < length part →
+  pub ciphertext_byte : (i : ℕ) (part : List ℕ) (k : ℕ) → k < length part →
       get_or (ciphertext_from b iv cipher i part) k 0 ≡ get_or (ciphertext_block b iv cipher i part (k / b)) (k % b) 0
   ciphertext_byte i part k lt =
       let n = block_count b (length part) in

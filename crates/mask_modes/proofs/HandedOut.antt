@@ -1,9 +1,11 @@
 -- What the steps of counter mode hand out stands for the ciphertext.
-use Rattle.std.proofs.Common.{◌≡◌, ℕ, suc, ◌+◌, ◌≤◌, Bool, true, false, cond, List, [], ◌∷◌, ◌++◌, map, length, take, drop, get_or, All, refl, ap, ap₂, sym, ◌∙◌, arith, add-zero}
+use Rattle.std.proofs.Common.{◌≡◌, ℕ, suc, ◌+◌, ◌/◌, ◌≤◌, Bool, true, false, cond, List, [], ◌∷◌, ◌++◌, map, length, take, drop, get_or, All, refl, ap, ap₂, sym, ◌∙◌, arith, add-zero}
 use Rattle.std.specs.List.{concat}
+use Rattle.std.proofs.Math.ListN.{get_or-map}
 use Rattle.std.proofs.lemmas.List.{length-map}
 use Rattle.std.proofs.lemmas.List.Concat.{concat_is}
 use Rattle.std.proofs.lemmas.List.Elements.{All-tail}
+use Rattle.mask_bits.specs.Reading.{bit}
 use Rattle.mask_circuit.specs.Ring.{bits}
 use Rattle.mask_circuit.specs.Wires.{each}
 use Rattle.mask_circuit.specs.Sharing.{unmasked}
@@ -15,8 +17,8 @@ use Rattle.mask_modes.specs.CounterMode.{block_count, counter, ciphertext_from, 
 use Rattle.mask_modes.specs.Readings.{AreBytes, IsReading}
 use Rattle.mask_modes.specs.Steps.{Cipher, Mode, Enciphers, IsBlock, block_at, blocks, block_step, refresh_step, steps_from, is_due}
 use Rattle.mask_modes.specs.Outputs.{key_of, HasKey, ciphertext_block, handed_out, StandFor}
-use Rattle.mask_modes.specs.Laws.{OutputsStandForCiphertext}
-use Rattle.mask_modes.proofs.CiphertextBlocks.{ciphertext_whole}
+use Rattle.mask_modes.specs.Laws.{OutputsStandForCiphertext, OutputsAreBits}
+use Rattle.mask_modes.proofs.CiphertextBlocks.{ciphertext_whole, ciphertext_byte}
 use Rattle.mask_modes.proofs.Keystreams.{counter_is_block, makes_blocks}
 use Rattle.mask_modes.proofs.Encrypting.{encrypted, refreshed}
 use Rattle.mask_modes.proofs.Pieces.{each-first, each_holds}
@@ -119,3 +121,13 @@ outputs_stand_for_ciphertext = record {
   lanes = λ N m cipher have i part r out two is has are stand.
       ends_in_ciphertext N m cipher two is (key_of have) i part _ out (length-map have.key _ ∙ has.key) are stand (blocks_encrypted N m cipher two is have i part r has are);
 }
+
+pub outputs_are_bits : OutputsAreBits
+outputs_are_bits N m cipher have i part r k p place two is has are lt reads =
+    let j = k / m.block in
+    let block = ciphertext_block m.block m.iv (cipher (key_of have)) i part j in
+    let size : length (key_of have) ≡ m.key = length-map have.key _ ∙ has.key in
+    sym (get_or-map (unmasked bits) (output_shares N have (block_step m (i + j) (block_at m.block part j)) r) place [])
+    ∙ ap (λ (bs : List Bool). get_or bs place false) (encrypted N m cipher two is have (i + j) (block_at m.block part j) r has (block_at_is_block m part j are))
+    ∙ reads block (ciphertext_block_is_block N m cipher two is (key_of have) i part j size are)
+    ∙ ap (bit p) (sym (ciphertext_byte m.block m.iv (cipher (key_of have)) is.some (makes_blocks m cipher (key_of have) is size) i part k lt))

@@ -5,7 +5,7 @@ use Rattle.std.proofs.lemmas.Nat.{mod_below, pow_pos}
 use Rattle.mask_circuit.specs.Wires.{joined}
 use Rattle.mask_circuit.proofs.Places.{length-each, length-joined}
 use Rattle.mask_gadget.proofs.Made.{joined-same}
-use Rattle.mask_modes.specs.CounterMode.{MakesBlocks, block_count, counter, keystream, ciphertext_from, xor_bytes}
+use Rattle.mask_modes.specs.CounterMode.{MakesBlocks, bytes_of, block_count, counter, keystream, ciphertext_from, xor_bytes}
 use Rattle.mask_modes.specs.Readings.{AreBytes}
 use Rattle.mask_modes.specs.Steps.{Cipher, Mode, Enciphers, IsBlock}
 use Rattle.mask_modes.specs.Laws.{CiphertextFits}
@@ -16,12 +16,12 @@ use Rattle.mask_modes.proofs.Xors.{length-xor_bytes, xor_bytes-append, xor_bytes
 pub length-counter : (b iv i : ℕ) → length (counter b iv i) ≡ b
 length-counter b iv i = length-each _ b
 
-pub counter_bytes : (b iv i : ℕ) → AreBytes (counter b iv i)
-counter_bytes b iv i = each_holds (λ byte. byte < 2 ^ 8) _ b (λ k lt. mod_below _ (2 ^ 8) (pow_pos 8))
+pub bytes_of_are_bytes : (n x : ℕ) → AreBytes (bytes_of n x)
+bytes_of_are_bytes n x = each_holds (λ byte. byte < 2 ^ 8) _ n (λ k lt. mod_below _ (2 ^ 8) (pow_pos 8))
 
 -- a counter is a block
 pub counter_is_block : (m : Mode) (i : ℕ) → IsBlock m (counter m.block m.iv i)
-counter_is_block m i = (length-counter m.block m.iv i, counter_bytes m.block m.iv i)
+counter_is_block m i = (length-counter m.block m.iv i, bytes_of_are_bytes m.block _)
 
 pub makes_blocks : (m : Mode) (cipher : Cipher) (key : List Bool) → Enciphers cipher m → length key ≡ m.key → MakesBlocks m.block m.iv (cipher key)
 makes_blocks m cipher key is size i = (is.is_block key (counter m.block m.iv i) size (counter_is_block m i)).0

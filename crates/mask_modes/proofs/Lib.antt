@@ -6,6 +6,7 @@ mod CounterExamples
 pub mod Encrypting
 pub mod HandedOut
 pub mod Keystreams
+pub mod Numbers
 pub mod Pieces
 pub mod Plans
 pub mod Readings

@@ -1,12 +1,12 @@
 -- The low-first and the high-first reading are readings, and counters are numbers.
-use Rattle.std.proofs.Common.{◌≡◌, ℕ, zero, suc, ◌+◌, ◌-◌, ◌*◌, ◌/◌, ◌%◌, ◌^◌, ◌<◌, Bool, nat_eq, List, [], ◌∷◌, ◌++◌, length, take, drop, reverse, get_or, inl, inr, refl, ap, ap₂, sym, subst, ◌∙◌, arith, add-zero, add-suc, append_assoc}
-use Rattle.std.proofs.Math.Nat.{mod-eq_of_lt}
+use Rattle.std.proofs.Common.{◌≡◌, ℕ, zero, suc, ◌+◌, ◌-◌, ◌*◌, ◌/◌, ◌%◌, ◌^◌, ◌<◌, Bool, false, nat_eq, List, [], ◌∷◌, ◌++◌, length, take, drop, reverse, get_or, inl, inr, refl, ap, ap₂, sym, subst, ◌∙◌, arith, add-zero, add-suc, append_assoc}
+use Rattle.std.proofs.Math.Nat.{mod-eq_of_lt, mod-mod}
 use Rattle.std.proofs.lemmas.List.{append-nil, take_at, drop_at, length-reverse, reverse-append, reverse-reverse, get_or-reverse, get_or_past}
 use Rattle.std.proofs.lemmas.Bool.{cases_lt}
 use Rattle.std.proofs.lemmas.Nat.{shr-shr}
 use Rattle.std.proofs.lemmas.List.Elements.{All-tail}
-use Rattle.mask_bits.specs.Reading.{high, bit, lowest, low, number}
-use Rattle.mask_bits.proofs.Bytes.{length-low, low-push, number-high}
+use Rattle.mask_bits.specs.Reading.{bit, lowest, low, high, number, big_endian}
+use Rattle.mask_bits.proofs.Bytes.{length-low, low-place, low-push, number-high}
 use Rattle.mask_bits.proofs.Numbers.{length-lowest, number-lowest, lowest-of}
 use Rattle.mask_circuit.specs.Wires.{each}
 use Rattle.mask_gadget.proofs.Made.{each-same}
@@ -14,7 +14,7 @@ use Rattle.mask_modes.specs.CounterMode.{counter, bytes_of}
 use Rattle.mask_modes.specs.Readings.{AreBytes}
 use Rattle.mask_modes.specs.Laws.{BytesAreRead}
 use Rattle.mask_modes.proofs.Pieces.{each-first}
-use Rattle.mask_modes.proofs.Keystreams.{counter_bytes}
+use Rattle.mask_modes.proofs.Keystreams.{bytes_of_are_bytes}
 
 -- a byte is known by its bits
 byte_is : (x y : ℕ) → x < 2 ^ 8 → y < 2 ^ 8 → lowest 8 x ≡ lowest 8 y → x ≡ y
@@ -38,6 +38,14 @@ AreBytes-reverse xs small k d lt =
     let within : k < length xs = omega (arith, length-reverse xs) in
     subst (λ (byte : ℕ). byte < 2 ^ 8) (sym (get_or-reverse xs k d within)) (small (length xs - 1 - k) d (omega arith))
 
+-- bit p of byte k, read high first
+high-place : (xs : List ℕ) (k p : ℕ) → k < length xs → p < 8 → get_or (high xs) (8 * (length xs - 1 - k) + p) false ≡ bit p (get_or xs k 0)
+high-place xs k p lt few =
+    let turned : length xs - 1 - k < length xs = omega arith in
+    let back : length xs - 1 - (length xs - 1 - k) ≡ k = omega arith in
+    low-place (reverse xs) (length xs - 1 - k) p (omega (arith, length-reverse xs)) few
+    ∙ ap (bit p) (get_or-reverse xs (length xs - 1 - k) 0 turned ∙ ap (λ (j : ℕ). get_or xs j 0) back)
+
 -- COUNTERS
 
 -- the lower bits of a number, and then the others
@@ -50,7 +58,7 @@ lowest-add m (suc n) x =
     ∙ append_assoc (lowest m x) (lowest n (x / 2 ^ m)) (bit n (x / 2 ^ m) ∷ [])
 
 -- what is left of a number has its last bits
-lowest-mod : (n x : ℕ) → lowest n (x % 2 ^ n) ≡ lowest n x
+pub lowest-mod : (n x : ℕ) → lowest n (x % 2 ^ n) ≡ lowest n x
 lowest-mod n x = lowest-of (lowest n x) (x % 2 ^ n) n (sym (number-lowest n x)) (length-lowest n x)
 
 -- the bytes of a number from the last one on are its bits
@@ -82,9 +90,6 @@ high-bytes_of n x =
     ∙ each-same _ _ n (λ j lt. let e : n - suc (n - suc j) ≡ j = omega arith in ap byte e))
     ∙ low_bytes x n
 
-high-counter : (b iv i : ℕ) → high (counter b iv i) ≡ lowest (8 * b) (iv + i)
-high-counter b iv i = high-bytes_of b ((iv + i) % 2 ^ (8 * b)) ∙ lowest-mod (8 * b) (iv + i)
-
 -- past the end there are zeros
 byte_at : (xs : List ℕ) → AreBytes xs → (k : ℕ) → get_or xs k 0 < 256
 byte_at xs are k = elim (cases_lt k (length xs)) [
@@ -92,19 +97,35 @@ byte_at xs are k = elim (cases_lt k (length xs)) [
   | inr past ↦ omega (arith, get_or_past xs k 0 past)
 ]
 
+-- bytes that are read high first are the bits of their big-endian number
+pub number_of_high : (xs : List ℕ) → AreBytes xs → number (high xs) ≡ big_endian xs
+number_of_high xs are = number-high xs (byte_at xs are)
+
+pub length-high : (xs : List ℕ) → length (high xs) ≡ 8 * length xs
+length-high xs = length-low (reverse xs) ∙ ap (λ (n : ℕ). 8 * n) (length-reverse xs)
+
+pub high_is : (xs : List ℕ) → AreBytes xs → high xs ≡ lowest (8 * length xs) (big_endian xs)
+high_is xs are = sym (lowest-of (high xs) (big_endian xs) (8 * length xs) (sym (number_of_high xs are)) (length-high xs))
+
+pub big_endian-bytes_of : (n x : ℕ) → big_endian (bytes_of n x) ≡ x % 2 ^ (8 * n)
+big_endian-bytes_of n x =
+    sym (number_of_high (bytes_of n x) (bytes_of_are_bytes n x)) ∙ ap number (high-bytes_of n x) ∙ number-lowest (8 * n) x
+
+high-counter : (b iv i : ℕ) → high (counter b iv i) ≡ lowest (8 * b) (iv + i)
+high-counter b iv i = high-bytes_of b ((iv + i) % 2 ^ (8 * b)) ∙ lowest-mod (8 * b) (iv + i)
+
 pub bytes_are_read : BytesAreRead
 bytes_are_read = record {
   low_first = record { count = length-low; one_to_one = low_one_to_one };
   high_first = record {
-    count = λ xs. length-low (reverse xs) ∙ ap (λ (n : ℕ). 8 * n) (length-reverse xs);
+    count = length-high;
     one_to_one = λ xs ys small small' same.
         sym (reverse-reverse xs)
         ∙ ap reverse (low_one_to_one (reverse xs) (reverse ys) (AreBytes-reverse xs small) (AreBytes-reverse ys small') same)
         ∙ reverse-reverse ys;
   };
-  number = λ b iv i.
-      sym (number-high (counter b iv i) (byte_at (counter b iv i) (counter_bytes b iv i)))
-      ∙ ap number (high-counter b iv i)
-      ∙ number-lowest (8 * b) (iv + i);
+  low_place = low-place;
+  high_place = high-place;
+  number = λ b iv i. big_endian-bytes_of b ((iv + i) % 2 ^ (8 * b)) ∙ mod-mod (iv + i) (2 ^ (8 * b));
   bits = high-counter;
 }

@@ -1,7 +1,7 @@
 -- What is proved of counter mode.
-use Rattle.std.specs.Prelude.{◌≡◌, ℕ, pred, ◌+◌, ◌-◌, ◌*◌, ◌/◌, ◌%◌, ◌^◌, ◌<◌, ◌≤◌, Bool, List, ◌++◌, map, length, take, slice_index, All}
+use Rattle.std.specs.Prelude.{◌≡◌, ℕ, pred, ◌+◌, ◌-◌, ◌*◌, ◌/◌, ◌%◌, ◌^◌, ◌<◌, ◌≤◌, Bool, false, List, [], ◌++◌, map, length, take, slice_index, All, slice_index_or}
 use Rattle.std.specs.List.{concat}
-use Rattle.mask_bits.specs.Reading.{lowest, low, high, big_endian}
+use Rattle.mask_bits.specs.Reading.{bit, lowest, low, high, big_endian}
 use Rattle.mask_circuit.specs.Ring.{bits}
 use Rattle.mask_circuit.specs.Wires.{each, joined}
 use Rattle.mask_circuit.specs.Expansion.{draws}
@@ -11,7 +11,7 @@ use Rattle.mask_trace.specs.Traces.{BitShares, after, output_shares}
 use Rattle.mask_trace.specs.Privacy.{AreAlike, trace_hits}
 use Rattle.mask_trace.specs.Drawing.{Stand, Ran, RanPart}
 use Rattle.mask_modes.specs.CounterMode.{MakesBlocks, block_count, counter, ciphertext_from, xor_bytes}
-use Rattle.mask_modes.specs.Steps.{Cipher, Mode, Enciphers, IsBlock, block_at, blocks, block_step, refresh_step, steps_from, steps_of, ahead_of, block_steps, IsBatch}
+use Rattle.mask_modes.specs.Steps.{Cipher, Mode, Enciphers, EnciphersNumbers, on_numbers, IsBlock, block_at, blocks, block_step, refresh_step, steps_from, steps_of, ahead_of, block_steps, IsBatch}
 use Rattle.mask_modes.specs.Readings.{AreBytes, IsReading}
 use Rattle.mask_modes.specs.Outputs.{key_of, HasKey, ciphertext_block, handed_out, StandFor}
 
@@ -87,11 +87,14 @@ pub record StepsEncrypt : Type 0 where
       2 ≤ N → Enciphers cipher m → HasKey N m have →
       HasKey N m (after N have (steps_from m i part) r) × (key_of (after N have (steps_from m i part) r) ≡ key_of have)
 
--- Both readings of bytes are readings. A counter is a big-endian number, and read high first its bits are those of the
--- number.
+-- Both readings of bytes are readings: where bit p of byte k stands. A counter is a big-endian number, and read high first
+-- its bits are those of the number.
 pub record BytesAreRead : Type 0 where
   pub low_first : IsReading low
   pub high_first : IsReading high
+  pub low_place : (bytes : List ℕ) (k p : ℕ) → k < length bytes → p < 8 → slice_index_or (low bytes) (8 * k + p) false ≡ bit p (slice_index bytes k)
+  pub high_place : (bytes : List ℕ) (k p : ℕ) → k < length bytes → p < 8 →
+      slice_index_or (high bytes) (8 * (length bytes - 1 - k) + p) false ≡ bit p (slice_index bytes k)
   pub number : (b iv i : ℕ) → big_endian (counter b iv i) ≡ (iv + i) % 2 ^ (8 * b)
   pub bits : (b iv i : ℕ) → high (counter b iv i) ≡ lowest (8 * b) (iv + i)
 
@@ -107,3 +110,16 @@ pub record OutputsStandForCiphertext : Type 0 where
       (out : List (List ℕ)) → 2 ≤ N → Enciphers cipher m → HasKey N m have → AreBytes part →
       StandFor m (each (λ l. output_shares N have (block_step m (i + l) (block_at m.block part l)) (r l)) (block_count m.block (length part))) out →
       take (length part) (concat out) ≡ ciphertext_from m.block m.iv (cipher (key_of have)) i part
+
+-- Bit p of byte k of the ciphertext: if the reading of a block has bit p of its byte k % b at a place, the shares of the
+-- output at this place stand for it, in the step of block k / b.
+abbrev pub OutputsAreBits : Type 0
+OutputsAreBits = (N : ℕ) (m : Mode) (cipher : Cipher) (have : Registers BitShares) (i : ℕ) (part : List ℕ) (r : List Bool) (k p place : ℕ) →
+    2 ≤ N → Enciphers cipher m → HasKey N m have → AreBytes part → k < length part →
+    ((block : List ℕ) → IsBlock m block → slice_index_or (m.reading block) place false ≡ bit p (slice_index block (k % m.block))) →
+    unmasked bits (slice_index_or (output_shares N have (block_step m (i + k / m.block) (block_at m.block part (k / m.block))) r) place [])
+    ≡ bit p (slice_index (ciphertext_from m.block m.iv (cipher (key_of have)) i part) k)
+
+-- A mode for a cipher on numbers enciphers.
+abbrev pub NumbersAreBlocks : Type 0
+NumbersAreBlocks = (m : Mode) (encrypt : List Bool → ℕ → ℕ) → EnciphersNumbers encrypt m → Enciphers (on_numbers m.block encrypt) m

@@ -1,6 +1,6 @@
 //! What is proved of counter mode.
 ghost use Rattle.mask_modes.specs.Laws.{BatchesAreSteps, BytesAreRead, CiphertextFits, CiphertextInBlocks, MessagesSplit};
-ghost use Rattle.mask_modes.specs.Laws.{OutputsStandForCiphertext, RunBits, RunsArePrivate, StepsAreStrong, StepsEncrypt};
+ghost use Rattle.mask_modes.specs.Laws.{NumbersAreBlocks, OutputsAreBits, OutputsStandForCiphertext, RunBits, RunsArePrivate, StepsAreStrong, StepsEncrypt};
 
 /// A message splits behind any whole blocks.
 pub fn messages_split()
@@ -50,4 +50,14 @@ pub fn bytes_are_read()
 /// What a run hands out stands for the ciphertext.
 pub fn outputs_stand_for_ciphertext()
     ensures { OutputsStandForCiphertext }
+{}
+
+/// Which output stands for which bit of the ciphertext.
+pub fn outputs_are_bits()
+    ensures { OutputsAreBits }
+{}
+
+/// A mode for a cipher on numbers, such as PRESENT's, enciphers blocks of bytes.
+pub fn numbers_are_blocks()
+    ensures { NumbersAreBlocks }
 {}
