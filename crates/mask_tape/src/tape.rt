@@ -101,7 +101,11 @@ impl Tape {
     /// The kept bits come first, and then those of just as many new bytes as are needed, the lowest bit of a byte first.
     /// Lane l owns bits `l · bits` to `(l + 1) · bits - 1` of this stretch, and word k of the coins has in lane l bit k of
     /// the lane's own part. The entropy is asked once, for all new bytes, and not at all where none is needed.
-    pub fn draw<E: Entropy>(&mut self, room: CoinRoom, entropy: &mut E) -> Result<Coins, mask_io::Failed>
+    pub fn draw<E: Entropy>(
+        &mut self,
+        room: CoinRoom,
+        entropy: &mut E,
+    ) -> Result<Coins, mask_io::Failed>
         ensures drawn { IfOk result (λ coins.
             IsDrawn self.old self.new (E.left entropy.old) (E.left entropy.new) room.lanes room.bits coins.words) }
         ensures unused { IfOk result (λ coins. coins.used ≡ 0) }
@@ -133,7 +137,11 @@ impl Tape {
 }
 
 // Puts this byte first, and new ones behind it.
-fn fill_behind<E: Entropy>(entropy: &mut E, last: u8, bytes: &mut [u8]) -> Result<(), mask_io::Failed>
+fn fill_behind<E: Entropy>(
+    entropy: &mut E,
+    last: u8,
+    bytes: &mut [u8],
+) -> Result<(), mask_io::Failed>
     requires { 1 ≤ length bytes.old }
     ensures ok { OnOk result ((fresh : List ℕ) × (bytes.new ≡ last ∷ fresh) × Takes (E.left entropy.old) (E.left entropy.new) fresh) }
     ensures wants { OnOk result (E.wanted entropy.new ≡ E.wanted entropy.old) }
