@@ -1,4 +1,4 @@
-use Rattle.std.proofs.Common.{◌≡◌, ℕ, suc, ◌+◌, ◌-◌, ◌*◌, Bool, cond, List, [], ◌∷◌, length, map, refl, sym, ap, ap₂, subst, ◌∙◌, lit<, lit≤, arith}
+use Rattle.std.proofs.Common.{◌≡◌, ℕ, suc, ◌+◌, ◌-◌, ◌*◌, Bool, cond, List, [], ◌∷◌, length, map, refl, sym, ap, ap₂, subst, ◌∙◌, lit<, lit≤, rules, arith}
 use Rattle.std.proofs.lemmas.List.{length-map}
 use Rattle.mask_circuit.specs.Netlist.{Netlist}
 use Rattle.mask_laws.proofs.Hiding.{accepted_call_is_private}
@@ -33,7 +33,10 @@ evaluate-requires g c =
       subst (λ (e : Awaited). g.W.Watch.ready c.room.new.self (e ∷ []))
       (ap₂ (λ (n : Netlist) (o : ℕ). awaited n o 1) c.circuit-circuit.ensures.same order) (c.in_ok-room-2.ensures.ready [] c.cancel.ensures.ready),
     ) in
-    (lit< tt, (c.requires.some, (c.requires.few, (lit≤ tt, (lit≤ tt, (c.in_ok-frame.ensures.fits, (inputs, (room, (ready, tt)))))))))
+    (
+      first_of (search rules, omega arith),
+      (lit< tt, (c.requires.some, (c.requires.few, (lit≤ tt, (lit≤ tt, (c.in_ok-frame.ensures.fits, (inputs, (room, ready)))))))),
+    )
 
 pub returns-in-Err-clause-secure : goal.returns-in-Err-clause-secure
 returns-in-Err-clause-secure g c = TellsSecureCalls-none _ _ (ap g.W.Watch.told c.in-Err.ensures.watch ∙ c.room.ensures.told ∙ c.cancel.ensures.told)
