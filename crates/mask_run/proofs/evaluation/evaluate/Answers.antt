@@ -31,9 +31,8 @@ evaluate-requires g c =
     let ready : IsReadyFor (g.W.Watch.ready c.room.new.self) c.args.prepared.now.circuit (g.row.N - 1) 1 = (
       [],
       subst (λ (e : Awaited). g.W.Watch.ready c.room.new.self (e ∷ []))
-      (ap₂ (λ (n : Netlist) (o : ℕ). awaited n o 1) c.circuit-circuit.ensures.same order) (c.in_ok-room-2.ensures.ready [] c.cancel.ensures.ready),
-    ) in
-    (
+          (ap₂ (λ (n : Netlist) (o : ℕ). awaited n o 1) c.circuit-circuit.ensures.same order) (c.in_ok-room-2.ensures.ready [] c.cancel.ensures.ready),
+    ) in (
       first_of (search rules, omega arith),
       (lit< tt, (c.requires.some, (c.requires.few, (lit≤ tt, (lit≤ tt, (c.in_ok-frame.ensures.fits, (inputs, (room, ready)))))))),
     )
@@ -70,8 +69,8 @@ returns-clause-report g c =
     let words = sym (c.deref.ensures.value ∙ c.in_ok-words.ensures) in
     let told = sym (c.room.ensures.told ∙ c.cancel.ensures.told) in
     let run = evaluates-same circuit g.row.N (suc c.args.order) _ [] _ [] c.deref.result.now (words_of inputs) c.new-bits.result [] c.evaluate.new.tape
-        (g.E.Entropy.left c.args.tape.now) (g.E.Entropy.left c.evaluate.new.entropy) (g.W.Watch.told c.room.new.self) (g.W.Watch.told c.args.watch.now)
-        (g.W.Watch.told c.evaluate.new.watch) c.evaluate.new.frame.outputs more refl refl words (sym c.new-bits.ensures) told c.in-Ok.ensures.evaluates in
+    (g.E.Entropy.left c.args.tape.now) (g.E.Entropy.left c.evaluate.new.entropy) (g.W.Watch.told c.room.new.self) (g.W.Watch.told c.args.watch.now)
+    (g.W.Watch.told c.evaluate.new.watch) c.evaluate.new.frame.outputs more refl refl words (sym c.new-bits.ensures) told c.in-Ok.ensures.evaluates in
     let count = c.args.prepared.now.just_enough in
     let stand = outputs_stand circuit c.args.order inputs c.evaluate.new.tape (g.E.Entropy.left c.args.tape.now) (g.E.Entropy.left c.evaluate.new.entropy)
     (g.W.Watch.told c.args.watch.now) (g.W.Watch.told c.evaluate.new.watch) c.evaluate.new.frame.outputs count run in
@@ -95,16 +94,16 @@ returns-clause-evaluates g c =
     let words = sym (c.deref.ensures.value ∙ c.in_ok-words.ensures) in
     let told = sym (c.room.ensures.told ∙ c.cancel.ensures.told) in
     let run = evaluates-same circuit g.row.N (suc c.args.order) _ [] _ [] c.deref.result.now (words_of inputs) c.new-bits.result [] c.evaluate.new.tape
-        (g.E.Entropy.left c.args.tape.now) (g.E.Entropy.left c.evaluate.new.entropy) (g.W.Watch.told c.room.new.self) (g.W.Watch.told c.args.watch.now)
-        (g.W.Watch.told c.evaluate.new.watch) c.evaluate.new.frame.outputs more refl refl words (sym c.new-bits.ensures) told c.in-Ok.ensures.evaluates in
+    (g.E.Entropy.left c.args.tape.now) (g.E.Entropy.left c.evaluate.new.entropy) (g.W.Watch.told c.room.new.self) (g.W.Watch.told c.args.watch.now)
+    (g.W.Watch.told c.evaluate.new.watch) c.evaluate.new.frame.outputs more refl refl words (sym c.new-bits.ensures) told c.in-Ok.ensures.evaluates in
     let count = c.args.prepared.now.just_enough in
     record {
       fresh = run.drawn.fresh;
       count = needed circuit c.args.order inputs c.evaluate.new.tape (g.E.Entropy.left c.args.tape.now) (g.E.Entropy.left c.evaluate.new.entropy)
-      (g.W.Watch.told c.args.watch.now) (g.W.Watch.told c.evaluate.new.watch) c.evaluate.new.frame.outputs count run;
+          (g.W.Watch.told c.args.watch.now) (g.W.Watch.told c.evaluate.new.watch) c.evaluate.new.frame.outputs count run;
       drawn = run.drawn.taken;
       tells = tells_call circuit c.args.order inputs c.evaluate.new.tape (g.E.Entropy.left c.args.tape.now) (g.E.Entropy.left c.evaluate.new.entropy)
-      (g.W.Watch.told c.args.watch.now) (g.W.Watch.told c.evaluate.new.watch) c.evaluate.new.frame.outputs count run;
+          (g.W.Watch.told c.args.watch.now) (g.W.Watch.told c.evaluate.new.watch) c.evaluate.new.frame.outputs count run;
       private = accepted_call_is_private circuit (suc c.args.order) (omega arith) c.circuit-circuit.ensures.circuit.formed c.circuit-circuit.ensures.accepted;
     }
 
