@@ -1,5 +1,5 @@
 -- Bits and bytes: the two readings, and the number that bits or bytes stand for.
-use Rattle.std.specs.Prelude.{◌≡◌, ℕ, zero, suc, ◌+◌, ◌*◌, ◌<◌, Bool, false, nat_eq, List, [], ◌∷◌, ◌++◌, reverse, fold, replicate, if◌then◌else◌}
+use Rattle.std.specs.Prelude.{◌≡◌, ℕ, zero, suc, ◌+◌, ◌*◌, ◌/◌, ◌<◌, Bool, false, nat_eq, List, [], ◌∷◌, ◌++◌, reverse, fold, replicate, if◌then◌else◌}
 use Rattle.std.specs.List.{flat_map}
 use Rattle.std.specs.Int.{bit_at}
 
@@ -28,6 +28,10 @@ number (b ∷ bits) = (if b then 1 else 0) + 2 * number bits
 -- the number that bytes stand for where the first one weighs most
 abbrev pub big_endian : List ℕ → ℕ
 big_endian bytes = fold (λ (n byte : ℕ). 256 * n + byte) 0 bytes
+
+-- how many bytes so many bits need
+abbrev pub bytes_for : ℕ → ℕ
+bytes_for bits = (bits + 7) / 8
 
 -- a reading begins with these bits and ends with fewer than eight zeros more
 abbrev pub IsPadded : List Bool → List Bool → Type 0

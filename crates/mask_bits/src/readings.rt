@@ -1,7 +1,7 @@
 //! Bytes as bits, and bits as bytes.
 
 ghost use Rattle.std.specs.Prelude.{◌≡◌, ℕ, ◌+◌, ◌-◌, ◌*◌, ◌/◌, ◌<◌, ◌≤◌, false, ◌++◌, length, replicate, slice_index, slice_index_or, IfOk, OnOk};
-ghost use Rattle.mask_bits.specs.Reading.{bit, lowest, low, high, number, big_endian, IsPadded};
+ghost use Rattle.mask_bits.specs.Reading.{bit, lowest, low, high, number, big_endian, bytes_for, IsPadded};
 
 use crate::Bits;
 use std::alloc::{AllocError, Global};
@@ -62,7 +62,7 @@ pub fn bytes_of_low(alloc: Global, bits: &Bits) -> Result<Vec<u8>, AllocError>
 /// Fills as many bytes as the bits need, so that their low-first reading begins with the bits and ends with fewer than
 /// eight zeros more. It takes no memory.
 pub fn pack_low(bits: &Bits, bytes: &mut [u8])
-    requires { length bytes.old ≡ (length bits.now + 7) / 8 }
+    requires { length bytes.old ≡ bytes_for (length bits.now) }
     ensures { IsPadded bits.now (low bytes.new) }
 {
     let mut rest = bits.as_slice();

@@ -11,6 +11,10 @@ listed R shares i = slice_index_or shares i R.nought
 abbrev pub all_listed : {X : Type 0} → Ring X → List (List X) → ℕ → Shares X
 all_listed R values u = listed R (slice_index_or values u [])
 
+-- the value that is shared: the sum of the shares
+abbrev pub unmasked : {X : Type 0} → Ring X → List X → X
+unmasked R shares = fold R.add R.nought shares
+
 -- the shares of a value: a coin for each share but the first, which is the value plus all coins
 abbrev pub shared : {X : Type 0} → Ring X → X → List X → List X
 shared R value coins = fold R.add value coins ∷ coins

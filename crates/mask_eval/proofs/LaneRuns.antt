@@ -8,14 +8,13 @@ use Rattle.mask_bits.specs.Lanes.{lane}
 use Rattle.mask_circuit.specs.declared.gates.Gate.{Gate}
 use Rattle.mask_circuit.specs.declared.gates.Gate.TheVariants.{Zero, One, Xor, Not, And, Ref}
 use Rattle.mask_circuit.specs.Netlist.{Netlist, IsCircuit, value_count}
-use Rattle.mask_circuit.specs.Value.{xor, plain}
+use Rattle.mask_circuit.specs.Value.{plain}
 use Rattle.mask_circuit.specs.Ring.{Ring, bits, words}
 use Rattle.mask_circuit.specs.declared.gates.Wire.{Wire}
 use Rattle.mask_circuit.specs.declared.gates.Wire.TheVariants.{Share, Product, Fresh, Left, Right, Partial}
 use Rattle.mask_circuit.specs.Wires.{Shares, each, gate_draws, gate_wire}
 use Rattle.mask_circuit.specs.Expansion.{Carried, shares_of, put, start, run, expand, draws, outs}
-use Rattle.mask_laws.specs.Sharing.{xor_all, unshared}
-use Rattle.mask_laws.proofs.Bits.{xor-false, xor_assoc}
+use Rattle.mask_laws.specs.Sharing.{unshared}
 use Rattle.mask_laws.proofs.Unmasking.{outputs_unmask}
 use Rattle.mask_shares.specs.Sharing.{listed, all_listed, unmasked}
 use Rattle.mask_shares.proofs.Lists.{length-each, get_or-each, is_each, each-same}
@@ -129,14 +128,6 @@ outputs_of_frame c N frame numbers old new seen copies coins is fits numbers_are
 
 -- PLAIN VALUES
 
--- the sum of bits from the left is that from the right
-pub fold_from : (a : Bool) (xs : List Bool) → fold xor a xs ≡ xor a (xor_all xs)
-fold_from a [] = sym (xor-false a)
-fold_from a (x ∷ xs) = fold_from (xor a x) xs ∙ xor_assoc a x (xor_all xs)
-
-unmasked_is : (xs : List Bool) → unmasked bits xs ≡ xor_all xs
-unmasked_is xs = fold_from false xs
-
 -- a list is made by its own elements
 each_get : {A : Type 0} (xs : List A) (d : A) → each (λ i. get_or xs i d) (length xs) ≡ xs
 each_get xs d =
@@ -154,12 +145,12 @@ unshared_in_lane : (l N : ℕ) (values : List (List ℕ)) → All (λ v. length 
     each (λ v. unshared N (all_listed bits (map (lane l) values) v)) (length values) ≡ map (λ v. unmasked bits (lane l v)) values
 unshared_in_lane l N values counts = each-same _ _ (length values) at ∙ each_map (λ v. unmasked bits (lane l v)) values []
   where
-    of_list : (xs : List Bool) → length xs ≡ N → xor_all (each (listed bits xs) N) ≡ unmasked bits xs
-    of_list xs e = ap xor_all (ap (λ (n : ℕ). each (listed bits xs) n) (sym e) ∙ each_get xs false) ∙ sym (unmasked_is xs)
+    of_list : (xs : List Bool) → length xs ≡ N → unmasked bits (each (listed bits xs) N) ≡ unmasked bits xs
+    of_list xs e = ap (unmasked bits) (ap (λ (n : ℕ). each (listed bits xs) n) (sym e) ∙ each_get xs false)
 
     at : (k : ℕ) → k < length values → unshared N (all_listed bits (map (lane l) values) k) ≡ unmasked bits (lane l (get_or values k []))
     at k lt =
-        ap (λ (xs : List Bool). xor_all (each (listed bits xs) N)) (get_or-map (lane l) values k [] [] lt)
+        ap (λ (xs : List Bool). unmasked bits (each (listed bits xs) N)) (get_or-map (lane l) values k [] [] lt)
         ∙ of_list (lane l (get_or values k [])) (length-lane l N (get_or values k []) (counts k [] lt))
 
 -- the outputs share the plain outputs
@@ -167,8 +158,7 @@ pub plain_in_lane : (l N : ℕ) (c : Netlist) (inputs outputs : List (List ℕ))
     All (λ v. length v ≡ N) inputs → map (lane l) outputs ≡ outs bits c N (all_listed bits (map (lane l) inputs)) r →
     map (λ v. unmasked bits (lane l v)) outputs ≡ plain c (map (λ v. unmasked bits (lane l v)) inputs)
 plain_in_lane l N c inputs outputs r is one count counts e =
-    ap (λ (f : List ℕ → Bool). map f outputs) (fun_ext (λ v. unmasked_is (lane l v)))
-    ∙ sym (map-map xor_all (lane l) outputs)
-    ∙ ap (map xor_all) e
+    sym (map-map (unmasked bits) (lane l) outputs)
+    ∙ ap (map (unmasked bits)) e
     ∙ outputs_unmask c N (all_listed bits (map (lane l) inputs)) r is.formed one
     ∙ ap (plain c) (ap (λ (n : ℕ). each (λ v. unshared N (all_listed bits (map (lane l) inputs) v)) n) (sym count) ∙ unshared_in_lane l N inputs counts)

@@ -1,3 +1,4 @@
+pub mod Counts
 pub mod LaneRuns
 pub mod Lists
 pub mod Runs

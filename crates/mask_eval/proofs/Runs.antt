@@ -1,7 +1,7 @@
 -- A run gate by gate: it depends on the shares of earlier values alone, and a frame that holds these goes on with it.
-use Rattle.std.proofs.Common.{◌≡◌, ℕ, zero, suc, ◌+◌, ◌<◌, ◌≤◌, ◌⊎◌, inl, inr, cond, ◌==◌, nat_lt, List, [], ◌∷◌, length, take, drop, set, sum_by, refl, ap, ap₂, sym, ◌∙◌, arith}
+use Rattle.std.proofs.Common.{◌≡◌, ℕ, zero, suc, ◌+◌, ◌-◌, ◌<◌, ◌⊎◌, inl, inr, cond, ◌==◌, nat_lt, List, [], ◌∷◌, ◌++◌, length, take, drop, set, sum_by, refl, ap, ap₂, sym, ◌∙◌, arith}
 use Rattle.std.proofs.lemmas.Bool.{eq-eqb, cases_order}
-use Rattle.std.proofs.lemmas.List.{take-take, drop-take, get_or-set_other}
+use Rattle.std.proofs.lemmas.List.{take-take, drop-take, get_or-take, get_or-set_other, set-append_right}
 use Rattle.std.proofs.lemmas.List.Sums.{sum_by-cons}
 use Rattle.std.proofs.lemmas.Grind.{get_or-set_at}
 use Rattle.mask_circuit.specs.declared.gates.Gate.{Gate}
@@ -19,14 +19,11 @@ use Rattle.mask_gadget.proofs.Made.{map-each}
 use Rattle.mask_gadget.proofs.Rows.{row_sum-same}
 use Rattle.mask_eval.specs.Frames.{SameShares}
 
--- operands below n are below m
-pub operands-wider : (n m : ℕ) (g : Gate) → n ≤ m → OperandsBelow n g → OperandsBelow m g
-operands-wider n m Zero le b = tt
-operands-wider n m One le b = tt
-operands-wider n m (Xor u v) le b = (omega (arith, b.0), omega (arith, b.1))
-operands-wider n m (Not u) le b = omega arith
-operands-wider n m (And u v) le b = (omega (arith, b.0), omega (arith, b.1))
-operands-wider n m (Ref u) le b = omega arith
+-- the element behind the front of a list is written
+pub written_behind : {A : Type 0} (xs front back : List A) (n : ℕ) (x : A) → xs ≡ front ++ back → length front ≡ n → front ++ set back 0 x ≡ set xs n x
+written_behind {A = A} xs front back n x parts count =
+    let none : n - n ≡ 0 = omega arith in
+    sym (ap (λ (ys : List A). set ys n x) parts ∙ set-append_right front back n n x count (omega arith) ∙ rw none refl)
 
 module _ {X : Type 0} (R : Ring X) where
   cross-same : (a a' b b' : Shares X) (r : ℕ → ℕ → X) (i j : ℕ) → a i ≡ a' i → a j ≡ a' j → b i ≡ b' i → b j ≡ b' j →
@@ -50,6 +47,10 @@ module _ {X : Type 0} (R : Ring X) where
   share-same (suc N) n (Ref u) s s' r below same i lt =
       let term : ℕ → X = fresh_between (fresh_of R (pairs (suc N)) r) i in
       row_sum-same R (s u i) (s' u i) term term i N (same u i below lt) (λ j le ne. refl)
+
+  -- so the values before it are enough
+  pub earlier-same : (N n : ℕ) (values : List (List X)) → SameShares N n (all_listed R (take n values)) (all_listed R values)
+  earlier-same N n values u i lu li = ap (λ (v : List X). listed R v i) (get_or-take n values u [] lu)
 
   -- so do the shares of all later values
   pub run-same : (N : ℕ) (gs : List Gate) (n : ℕ) (t t' : Carried X) (r : List X) → AreGates n gs → SameShares N n (shares_of t) (shares_of t') →

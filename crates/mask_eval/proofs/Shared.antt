@@ -1,16 +1,15 @@
 -- Words shared with coins: step by step, lane by lane, and what the shares stand for.
-use Rattle.std.proofs.Common.{◌≡◌, ℕ, suc, ◌+◌, ◌*◌, ◌<◌, Bool, List, [], ◌∷◌, ◌++◌, length, map, take, drop, get_or, fold, refl, ap, ap₂, sym, ◌∙◌, arith, length-drop}
-use Rattle.std.proofs.lemmas.List.{take_more, take-take, drop-take, drop-drop, get_or-drop, take-map, drop-map}
+use Rattle.std.proofs.Common.{◌≡◌, ℕ, suc, ◌+◌, ◌*◌, ◌<◌, Bool, List, [], ◌∷◌, ◌++◌, length, map, take, drop, get_or, set, fold, refl, ap, ap₂, sym, ◌∙◌, arith, length-drop, append_assoc}
+use Rattle.std.proofs.lemmas.List.{take_more, take_more_set, drop-drop, get_or-drop, take-map, drop-map, length-take-le}
 use Rattle.mask_circuit.specs.Value.{xor}
 use Rattle.mask_bits.specs.Reading.{bit}
 use Rattle.mask_bits.specs.Lanes.{lane}
 use Rattle.mask_circuit.specs.Ring.{Ring, bits, words}
-use Rattle.mask_laws.specs.Sharing.{xor_all}
 use Rattle.mask_laws.proofs.Bits.{xor-false, xor_assoc, xor_self}
+use Rattle.mask_laws.proofs.BitSums.{fold-xor}
 use Rattle.mask_shares.specs.Sharing.{shared, all_shared, unmasked}
 use Rattle.mask_gadget.proofs.Lanes.{Keeps, keeps_lane}
 use Rattle.mask_tape.specs.Drawn.{Drawn, ahead}
-use Rattle.mask_eval.proofs.LaneRuns.{fold_from}
 
 -- one coin more
 pub ahead_more : (n : ℕ) (c : Drawn) → c.used + n < length c.words → ahead (n + 1) c ≡ ahead n c ++ get_or c.words (c.used + n) 0 ∷ []
@@ -51,10 +50,10 @@ unmasked_in_lane l shares =
 -- the sum of all shares is the value
 pub shared-unmasks : (b : Bool) (coins : List Bool) → unmasked bits (shared bits b coins) ≡ b
 shared-unmasks b coins =
-    fold_from (fold xor b coins) coins
-    ∙ ap (λ (x : Bool). xor x (xor_all coins)) (fold_from b coins)
-    ∙ xor_assoc b (xor_all coins) (xor_all coins)
-    ∙ ap (xor b) (xor_self (xor_all coins))
+    fold-xor (fold xor b coins) coins
+    ∙ ap (λ (x : Bool). xor x (unmasked bits coins)) (fold-xor b coins)
+    ∙ xor_assoc b (unmasked bits coins) (unmasked bits coins)
+    ∙ ap (xor b) (xor_self (unmasked bits coins))
     ∙ xor-false b
 
 pub all_shared-unmask : (d : ℕ) (bs coins : List Bool) → map (unmasked bits) (all_shared bits d bs coins) ≡ bs
@@ -65,17 +64,6 @@ all_shared-unmask d (b ∷ bs) coins =
 -- STEPS
 
 module _ {X : Type 0} (R : Ring X) where
-  -- just d coins are used for each value
-  pub all_shared-take : (d : ℕ) (xs coins : List X) → all_shared R d xs (take (d * length xs) coins) ≡ all_shared R d xs coins
-  all_shared-take d [] coins = refl
-  all_shared-take d (x ∷ xs) coins =
-      let more : d * suc (length xs) ≡ d + d * length xs = omega arith in
-      let first : take d (take (d + d * length xs) coins) ≡ take d coins = take-take d (d + d * length xs) coins (omega arith) in
-      let rest : drop d (take (d + d * length xs) coins) ≡ take (d * length xs) (drop d coins) = drop-take d (d * length xs) coins in
-      ap (λ (n : ℕ). all_shared R d (x ∷ xs) (take n coins)) more
-      ∙ ap₂ (λ (s t : List X). shared R x s ∷ all_shared R d xs t) first rest
-      ∙ ap (λ (ss : List (List X)). shared R x (take d coins) ∷ ss) (all_shared-take d xs (drop d coins))
-
   -- one value more
   pub all_shared-push : (d : ℕ) (xs : List X) (x : X) (coins : List X) →
       all_shared R d (xs ++ x ∷ []) coins ≡ all_shared R d xs coins ++ shared R x (take d (drop (d * length xs) coins)) ∷ []
@@ -90,3 +78,26 @@ module _ {X : Type 0} (R : Ring X) where
   pub length-all_shared : (d : ℕ) (xs coins : List X) → length (all_shared R d xs coins) ≡ length xs
   length-all_shared d [] coins = refl
   length-all_shared d (x ∷ xs) coins = ap suc (length-all_shared d xs (drop d coins))
+
+-- one word more is shared, behind values that stay
+pub shared_more : (d k start used : ℕ) (ws coins : List ℕ) (values front : List (List ℕ)) (shares : List ℕ) → k < length ws → start + k < length values →
+    take (start + k) values ≡ front ++ all_shared words d (take k ws) (drop used coins) →
+    shares ≡ shared words (get_or ws k 0) (take d (drop (used + d * k) coins)) →
+    take (start + (k + 1)) (set values (start + k) shares) ≡ front ++ all_shared words d (take (k + 1) ws) (drop used coins)
+shared_more d k start used ws coins values front shares lt room before made =
+    ap (λ (n : ℕ). take n (set values (start + k) shares)) more
+    ∙ take_more_set values (start + k) shares room
+    ∙ ap (λ (vs : List (List ℕ)). vs ++ shares ∷ []) before
+    ∙ append_assoc front (all_shared words d (take k ws) (drop used coins)) (shares ∷ [])
+    ∙ ap (λ (vs : List (List ℕ)). front ++ vs)
+    (ap (λ (v : List ℕ). all_shared words d (take k ws) (drop used coins) ++ v ∷ [])
+    (made ∙ ap (λ (cs : List ℕ). shared words (get_or ws k 0) (take d cs)) there)
+    ∙ sym (all_shared-push words d (take k ws) (get_or ws k 0) (drop used coins))
+    ∙ ap (λ (xs : List ℕ). all_shared words d xs (drop used coins)) (sym (take_more ws k 0 lt)))
+  where
+    more : start + (k + 1) ≡ start + k + 1
+    more = omega arith
+
+    there : drop (used + d * k) coins ≡ drop (d * length (take k ws)) (drop used coins)
+    there =
+        sym (drop-drop (d * k) used coins) ∙ ap (λ (n : ℕ). drop (d * n) (drop used coins)) (sym (length-take-le k ws (omega arith)))

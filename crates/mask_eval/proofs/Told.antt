@@ -24,29 +24,42 @@ use Rattle.mask_gadget.proofs.Made.{map-each}
 use Rattle.mask_gadget.proofs.Telling.{told_more-more}
 use Rattle.mask_eval.specs.Frames.{SameShares}
 use Rattle.mask_eval.specs.Telling.{wires_from}
-use Rattle.mask_eval.proofs.Runs.{share-same, set-same}
+use Rattle.mask_eval.proofs.Runs.{share-same, earlier-same, set-same}
 
 module _ {X : Type 0} (R : Ring X) (N : ℕ) (two : 2 ≤ N) where
-  -- the wires of a gate that acts share by share depend on the operands' shares alone ..
-  linear-same : (n : ℕ) (g : Gate) (s s' : ℕ → Shares X) (r : List X) → OperandsBelow n g → SameShares N n s s' →
+  -- the output shares of a gate depend on the operands' shares alone ..
+  out-same : (n : ℕ) (g : Gate) (s s' : ℕ → Shares X) (r : List X) → OperandsBelow n g → SameShares N n s s' →
       gate_out R N g s r ≡ gate_out R N g s' r
-  linear-same n g s s' r below same =
+  out-same n g s s' r below same =
       map-each (gate_wire R N g s r) Share N
       ∙ each-same _ _ N (λ i lt. share-same R N n g s s' r below same i lt)
       ∙ sym (map-each (gate_wire R N g s' r) Share N)
 
-  -- .. and so do those of each gate
+  -- .. and so do its wires
   gate-same : (n : ℕ) (g : Gate) (s s' : ℕ → Shares X) (r : List X) → OperandsBelow n g → SameShares N n s s' →
       gate_wires R N g s r ≡ gate_wires R N g s' r
   gate-same n Zero s s' r below same = refl
   gate-same n One s s' r below same = refl
-  gate-same n (Xor u v) s s' r below same = linear-same n (Xor u v) s s' r below same
-  gate-same n (Not u) s s' r below same = linear-same n (Not u) s s' r below same
+  gate-same n (Xor u v) s s' r below same = out-same n (Xor u v) s s' r below same
+  gate-same n (Not u) s s' r below same = out-same n (Not u) s s' r below same
   gate-same n (And u v) s s' r below same =
       product_wires-agree R N (fresh_of R (pairs N) r) (s u) (s' u) (s v) (s' v) (λ i lt. same u i below.0 lt) (λ i lt. same v i below.1 lt) two
   gate-same n (Ref u) s s' r below same = refresh_wires-agree R N (fresh_of R (pairs N) r) (s u) (s' u) (λ i lt. same u i below lt) two
 
-  -- so do those of gates one after another
+  -- so the values before it are enough
+  pub out-earlier : (n : ℕ) (g : Gate) (values before : List (List X)) (r : List X) → OperandsBelow n g → before ≡ take n values →
+      gate_out R N g (all_listed R before) r ≡ gate_out R N g (all_listed R values) r
+  out-earlier n g values before r below is =
+      ap (λ (vs : List (List X)). gate_out R N g (all_listed R vs) r) is
+      ∙ out-same n g (all_listed R (take n values)) (all_listed R values) r below (earlier-same R N n values)
+
+  pub wires-earlier : (n : ℕ) (g : Gate) (values before : List (List X)) (r : List X) → OperandsBelow n g → before ≡ take n values →
+      gate_wires R N g (all_listed R before) r ≡ gate_wires R N g (all_listed R values) r
+  wires-earlier n g values before r below is =
+      ap (λ (vs : List (List X)). gate_wires R N g (all_listed R vs) r) is
+      ∙ gate-same n g (all_listed R (take n values)) (all_listed R values) r below (earlier-same R N n values)
+
+  -- the wires of gates one after another depend on the shares of the values before them
   pub wires_from-same : (gs : List Gate) (n : ℕ) (t t' : Carried X) (r : List X) → AreGates n gs → SameShares N n (shares_of t) (shares_of t') →
       wires_from R N gs n t r ≡ wires_from R N gs n t' r
   wires_from-same [] n t t' r are same = refl

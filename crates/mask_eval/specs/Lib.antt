@@ -1,3 +1,4 @@
+pub mod Evaluated
 pub mod Frames
 pub mod Listing
 pub mod Telling

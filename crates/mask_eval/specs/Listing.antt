@@ -1,12 +1,12 @@
 -- What a watch keeps that keeps all.
-use Rattle.std.specs.Prelude.{◌≡◌, ℕ, suc, ◌+◌, ◌*◌, List, [], ◌∷◌, ◌++◌, length, map, All}
+use Rattle.std.specs.Prelude.{◌≡◌, ℕ, suc, ◌+◌, ◌*◌, List, [], ◌∷◌, ◌++◌, length, map, take, drop, All}
 use Rattle.mask_bits.specs.Lanes.{lane}
 use Rattle.mask_circuit.specs.Netlist.{Netlist}
 use Rattle.mask_circuit.specs.Expansion.{draws}
-use Rattle.mask_eval.specs.Watching.{Told}
+use Rattle.mask_eval.specs.Watching.{Told, Awaited}
 use Rattle.mask_eval.specs.declared.listing.Seen.{Seen}
 
--- what was told, and blanks for the next report
+-- what was told, and blanks for the next reports
 pub record Listed : Type 0 where
   pub told : List Told
   pub blank : List Told
@@ -26,6 +26,11 @@ pub record IsBlank (c : Netlist) (order : ℕ) (t : Told) : Type 0 where
 pub record AreBlank (c : Netlist) (order lanes : ℕ) (ts : List Told) : Type 0 where
   pub count : length ts ≡ lanes
   pub each_is : All (IsBlank c order) ts
+
+-- one for each lane of each evaluation, in order
+abbrev pub AreBlanksFor : List Awaited → List Told → Type 0
+AreBlanksFor [] ts = ts ≡ []
+AreBlanksFor (e ∷ es) ts = AreBlank e.circuit e.order e.lanes (take e.lanes ts) × AreBlanksFor es (drop e.lanes ts)
 
 -- blanks were added
 pub record Added (c : Netlist) (order lanes : ℕ) (old new : List Seen) : Type 0 where

@@ -9,7 +9,7 @@ ghost use Rattle.mask_circuit.specs.Expansion.{draws, outs};
 ghost use Rattle.mask_shares.specs.Sharing.{all_listed, unmasked};
 ghost use Rattle.mask_tape.specs.Drawn.{ahead, left};
 ghost use Rattle.mask_eval.specs.Frames.{IsFrameOf, input_values};
-ghost use Rattle.mask_eval.specs.Watching.{reports, told_more};
+ghost use Rattle.mask_eval.specs.Watching.{IsReadyFor, StaysReadyBehind, reports, told_more};
 
 use crate::frames::Frame;
 use crate::gates::eval_on;
@@ -39,7 +39,7 @@ pub fn eval<const N: usize, W: Watch, L: Ledger>(
     requires few_lanes { lanes ≤ 64 }
     requires fits { IsFrameOf frame.old circuit.now }
     requires coins { draws circuit.now N ≤ left coins.old }
-    requires ready { W.ready watch.old circuit.now (N - 1) lanes }
+    requires ready { IsReadyFor (W.ready watch.old) circuit.now (N - 1) lanes }
     ensures words { frame.new.outputs ≡ outs words circuit.now N (all_listed words (input_values frame.old)) (ahead (draws circuit.now N) coins.old) }
 
     // In each lane the outputs are those of the circuit expanded into shares ..
@@ -56,6 +56,7 @@ pub fn eval<const N: usize, W: Watch, L: Ledger>(
     ensures steps { steps.new ≡ steps.old + length circuit.now.gates }
     ensures told { W.told watch.new ≡ told_more (W.told watch.old)
         (reports circuit.now (N - 1) (concat (input_values frame.old)) (ahead (draws circuit.now N) coins.old) (concat frame.new.outputs) lanes) }
+    ensures ready { StaysReadyBehind (W.ready watch.old) (W.ready watch.new) circuit.now (N - 1) lanes }
 {
     let admitted = circuit;
     let circuit = admitted.circuit();

@@ -73,8 +73,8 @@ fn eval_gates<const N: usize, W: Wiring, L: Ledger>(
     ensures steps { steps.new ≡ steps.old + length gates.now }
 {
     for (k, gate) in gates.iter().enumerate() {
-        let shares = gate_on(*gate, values, coins, wires);
-        values[inputs + k] = shares;
+        let (before, rest) = values.split_at_mut(inputs + k);
+        gate_on(*gate, before, &mut rest[0], coins, wires);
         steps.tick();
     }
 }

@@ -1,6 +1,7 @@
 //! The evaluator: a circuit on shares, for up to 64 lanes at once, and what watches it.
 #![tactic(auto)]
 
+mod calls;
 mod evaluation;
 mod frames;
 mod gates;
@@ -9,6 +10,7 @@ mod sharing;
 mod watching;
 mod words;
 
+pub use calls::{coin_room, evaluate};
 pub use evaluation::eval;
 pub use frames::Frame;
 pub use gates::eval_on;

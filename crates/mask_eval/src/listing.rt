@@ -1,10 +1,10 @@
 //! A watch that keeps all that it is told.
 
-ghost use Rattle.std.specs.Prelude.{◌≡◌, ℕ, ◌+◌, ◌*◌, ◌<◌, ◌≤◌, List, [], ◌∷◌, ◌++◌, length, map, take, drop, All, Some, slice_get, IfOk, OnOk};
+ghost use Rattle.std.specs.Prelude.{◌≡◌, ℕ, ◌+◌, ◌*◌, ◌<◌, ◌≤◌, List, [], ◌∷◌, ◌++◌, length, map, take, drop, All, Some, slice_get, IfOk, OnOk, OnErr};
 ghost use Rattle.mask_bits.specs.Lanes.{lane};
 ghost use Rattle.mask_circuit.specs.Netlist.{Netlist};
 ghost use Rattle.mask_circuit.specs.Expansion.{draws};
-ghost use Rattle.mask_eval.specs.Listing.{Listed, as_told, IsBlank, AreBlank, Added, filled};
+ghost use Rattle.mask_eval.specs.Listing.{Listed, as_told, IsBlank, AreBlanksFor, Added, filled};
 ghost use Rattle.mask_eval.specs.declared.listing.Seen.{Seen};
 
 use crate::watching::Watch;
@@ -28,7 +28,7 @@ pub struct Seen {
 #[derive(Drop)]
 pub struct ListWatch {
     alloc: Global,
-    // What was told, and then blanks for the next report.
+    // What was told, and then blanks for the next reports.
     list: Vec<Seen>,
     told: usize,
 }
@@ -76,11 +76,15 @@ impl ListWatch {
 impl Watch for ListWatch {
     ghost told = { λ w. Some w.told };
 
-    ghost ready = { λ w c order lanes. AreBlank c order lanes w.blank };
+    ghost ready = { λ w es. AreBlanksFor es w.blank };
+
+    fn cancel(&mut self) {
+        self.list.truncate(self.told);
+    }
 
     fn room(&mut self, circuit: &Circuit, order: u32, lanes: u32) -> Result<(), AllocError> {
-        self.list.truncate(self.told);
-        add_blanks(self.alloc, circuit, order, lanes as usize, &mut self.list)
+        add_blanks(self.alloc, circuit, order, lanes as usize, &mut self.list)?;
+        Ok(())
     }
 
     fn report(
@@ -90,10 +94,11 @@ impl Watch for ListWatch {
         inputs: &[u64],
         coins: &[u64],
         outputs: &[u64],
-        _lanes: u32,
+        lanes: u32,
     ) {
-        fill_blanks(inputs, coins, outputs, self.told, &mut self.list);
-        self.told = self.list.len();
+        let end = self.told + lanes as usize;
+        fill_blanks(inputs, coins, outputs, &mut self.list[self.told..end]);
+        self.told = end;
     }
 }
 
@@ -116,7 +121,7 @@ fn blank(alloc: Global, circuit: &Circuit, order: u32) -> Result<Seen, AllocErro
     })
 }
 
-// Appends records of zeros; a refusal leaves some of them.
+// Appends records of zeros, or none.
 fn add_blanks(
     alloc: Global,
     circuit: &Circuit,
@@ -126,9 +131,31 @@ fn add_blanks(
 ) -> Result<(), AllocError>
     requires some { 1 ≤ order }
     requires few { order ≤ 7 }
+    ensures added { OnOk result (Added circuit.now order count list.old.items list.new.items) }
+    ensures same { OnErr result (list.new.items ≡ list.old.items) }
+{
+    let before = list.len();
+    match push_blanks(alloc, circuit, order, count, list) {
+        Ok(()) => Ok(()),
+        Err(error) => {
+            list.truncate(before);
+            Err(error)
+        }
+    }
+}
+
+// Appends records of zeros; a refusal leaves some of them.
+fn push_blanks(
+    alloc: Global,
+    circuit: &Circuit,
+    order: u32,
+    count: usize,
+    list: &mut Vec<Seen>,
+) -> Result<(), AllocError>
+    requires some { 1 ≤ order }
+    requires few { order ≤ 7 }
     ensures front { take (length list.old.items) list.new.items ≡ list.old.items }
-    ensures count { length list.old.items ≤ length list.new.items }
-    ensures blank { OnOk result (Added circuit.now order count list.old.items list.new.items) }
+    ensures added { OnOk result (Added circuit.now order count list.old.items list.new.items) }
 {
     for _ in 0..count {
         let seen = blank(alloc, circuit, order)?;
@@ -137,17 +164,16 @@ fn add_blanks(
     Ok(())
 }
 
-// Fills the records from this place on, each with the bits of its lane.
-fn fill_blanks(inputs: &[u64], coins: &[u64], outputs: &[u64], from: usize, list: &mut Vec<Seen>)
-    requires from { from ≤ length list.old.items }
-    requires few { length list.old.items ≤ from + 64 }
-    requires inputs { All (λ seen. length seen.inputs ≡ length inputs.now) (drop from list.old.items) }
-    requires tape { All (λ seen. length seen.tape ≡ length coins.now) (drop from list.old.items) }
-    requires outputs { All (λ seen. length seen.outputs ≡ length outputs.now) (drop from list.old.items) }
-    ensures { list.new.items ≡ take from list.old.items ++ filled inputs.now coins.now outputs.now 0 (drop from list.old.items) }
+// Fills the records, each with the bits of its lane.
+fn fill_blanks(inputs: &[u64], coins: &[u64], outputs: &[u64], blanks: &mut [Seen])
+    requires few { length blanks.old ≤ 64 }
+    requires inputs { All (λ seen. length seen.inputs ≡ length inputs.now) blanks.old }
+    requires tape { All (λ seen. length seen.tape ≡ length coins.now) blanks.old }
+    requires outputs { All (λ seen. length seen.outputs ≡ length outputs.now) blanks.old }
+    ensures { blanks.new ≡ filled inputs.now coins.now outputs.now 0 blanks.old }
 {
-    for l in 0..list.len() - from {
-        fill(inputs, coins, outputs, l, &mut list[from + l]);
+    for l in 0..blanks.len() {
+        fill(inputs, coins, outputs, l, &mut blanks[l]);
     }
 }
 

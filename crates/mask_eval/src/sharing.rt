@@ -1,8 +1,8 @@
 //! Words that are shared with fresh coins.
 
-ghost use Rattle.std.specs.Prelude.{◌≡◌, ℕ, ◌+◌, ◌-◌, ◌<◌, ◌≤◌, length};
+ghost use Rattle.std.specs.Prelude.{◌≡◌, ℕ, ◌+◌, ◌-◌, ◌*◌, ◌<◌, ◌≤◌, ◌++◌, length, take, drop};
 ghost use Rattle.mask_circuit.specs.Ring.{words};
-ghost use Rattle.mask_shares.specs.Sharing.{shared};
+ghost use Rattle.mask_shares.specs.Sharing.{shared, all_shared};
 ghost use Rattle.mask_tape.specs.Drawn.{ahead, left};
 
 use mask_shares::Shares;
@@ -28,4 +28,26 @@ pub fn share<const N: usize>(word: u64, coins: &mut Coins) -> Shares<N>
     }
     parts[0] = first;
     Shares::from_parts(parts)
+}
+
+/// Shares these words with the next coins, one after another, to the values from this place on.
+pub(crate) fn share_words<const N: usize>(
+    plain: &[u64],
+    start: usize,
+    coins: &mut Coins,
+    values: &mut [[u64; N]],
+)
+    requires some { 2 ≤ N }
+    requires few { N ≤ 8 }
+    requires room { start + length plain.now ≤ length values.old }
+    requires coins { (N - 1) * length plain.now ≤ left coins.old }
+    ensures values { take (start + length plain.now) values.new
+        ≡ take start values.old ++ all_shared words (N - 1) plain.now (drop coins.old.used coins.old.words) }
+    ensures spent { coins.new.used ≡ coins.old.used + (N - 1) * length plain.now }
+    ensures same { coins.new.words ≡ coins.old.words }
+{
+    for (k, word) in plain.iter().enumerate() {
+        let shares = share::<N>(*word, coins);
+        values[start + k] = shares.parts();
+    }
 }

@@ -1,6 +1,6 @@
 ghost use Rattle.std.specs.Prelude.{◌≡◌, ◌<◌, ◌≤◌};
 
-use super::{Frame, ListWatch, NoWatch, Watch, eval};
+use super::{Frame, ListWatch, NoWatch, Watch, coin_room, eval, evaluate};
 use mask_check::admit;
 use mask_circuit::{Builder, Circuit, CircuitError, Steps};
 use mask_io::MemEntropy;
@@ -88,15 +88,49 @@ fn eight_shares<L: Ledger>(alloc: Global, blank: Blank) -> Result<u64, Fail>
     Ok(shares.unmask())
 }
 
-fn outputs(alloc: Global) -> Result<(u64, u64, u64), Fail> {
+// The shared words are 11 and 01, and each is shared with one coin.
+fn shared_words<L: Ledger>(alloc: Global, blank: Blank) -> Result<u64, Fail>
+    requires name { blank.name ≡ L.name }
+    requires parts { blank.parts ≡ L.parts }
+    requires some_parts { 0 < L.parts }
+{
+    let mut steps = Steps::<L>::new(blank);
+    let admitted = admit(alloc, example(alloc)?, &mut steps)?;
+    let mut frame = Frame::<2>::new(alloc, &admitted)?;
+    let circuit = admitted.circuit();
+    if circuit.inputs() != 2 || circuit.outputs().len() != 1 {
+        return Ok(0);
+    }
+    let room = coin_room(alloc, &admitted, 1, 2, 2)?;
+    let mut tape = Tape::new();
+    let mut entropy = MemEntropy::new(vec![in alloc; 0xa5]?, Vec::new(alloc));
+    let mut watch = NoWatch;
+    evaluate(
+        &admitted,
+        2,
+        &[],
+        &[0b11, 0b01],
+        &[],
+        &mut frame,
+        room,
+        &mut tape,
+        &mut entropy,
+        &mut watch,
+        &mut steps,
+    )?;
+    Ok(frame.outputs()[0].unmask())
+}
+
+fn outputs(alloc: Global) -> Result<(u64, u64, u64, u64), Fail> {
     let (first, second) = two_shares::<Brand>(alloc, Blank::new(1))?;
     let product = eight_shares::<Brand>(alloc, Blank::new(1))?;
-    Ok((first, second, product))
+    let of_words = shared_words::<Brand>(alloc, Blank::new(1))?;
+    Ok((first, second, product, of_words))
 }
 
 #[test]
 fn evaluates_the_example(rt: HostRuntime) -> Result<(), Fail> {
-    assert_eq!(rt; outputs(rt.alloc())?, (0, 1, 0b0010));
+    assert_eq!(rt; outputs(rt.alloc())?, (0, 1, 0b0010, 0b10));
     Ok(())
 }
 

@@ -22,6 +22,21 @@ pub(crate) fn copy_values<const N: usize>(
     }
 }
 
+/// Copies these shares to the values from this place on.
+pub(crate) fn copy_shares<const N: usize>(
+    shares: &[Shares<N>],
+    start: usize,
+    values: &mut [[u64; N]],
+)
+    requires few { N ≤ 8 }
+    requires room { start + length shares.now ≤ length values.old }
+    ensures { take (start + length shares.now) values.new ≡ take start values.old ++ shares.now }
+{
+    for (k, shared) in shares.iter().enumerate() {
+        values[start + k] = shared.parts();
+    }
+}
+
 /// Writes the words of these values one after another.
 pub(crate) fn write_values<const N: usize>(values: &[[u64; N]], words: &mut [u64])
     requires few { N ≤ 8 }

@@ -9,5 +9,4 @@ pub mod Refreshes
 pub mod Rows
 pub mod Sizes
 pub mod Telling
-pub mod Totals
 pub mod Unmasking

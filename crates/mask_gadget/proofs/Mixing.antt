@@ -30,6 +30,11 @@ row_passed : (n k l i : ℕ) → Before k l i n → Before k l (suc i) (suc (suc
 row_passed n k l i (inl low) = inl (omega arith)
 row_passed n k l i (inr (same, low)) = inl (omega arith)
 
+-- the pairs of a row begin behind its own share
+begun_before : (k l i j j' : ℕ) → k < l → j ≤ suc i → Before k l i j → Before k l i j'
+begun_before k l i j j' low begun (inl less) = inl less
+begun_before k l i j j' low begun (inr (same, less)) = absurd (omega arith)
+
 not_before : (i j : ℕ) → Before i j i j → ⊥
 not_before i j (inl less) = omega arith
 not_before i j (inr (e, less)) = omega arith
@@ -48,6 +53,16 @@ module _ (n : ℕ) (a b : Shares ℕ) (r : ℕ → ℕ → ℕ) where
       none : (k l : ℕ) → k < l → Before k l 0 1 → ⊥
       none k l low (inl less) = omega arith
       none k l low (inr (same, less)) = omega arith
+
+  -- a row begins behind its own share
+  pub row_begun : (i j j' : ℕ) (term : ℕ → ℕ → ℕ) → j ≤ suc i → j' ≤ suc i → Mixed n a b r i j term → Mixed n a b r i j' term
+  row_begun i j j' term begun begun' mixed = record {
+    own = mixed.own;
+    upper = λ k l low high before. mixed.upper k l low high (begun_before k l i j' j low begun' before);
+    lower = λ k l low high before. mixed.lower k l low high (begun_before k l i j' j low begun' before);
+    upper_left = λ k l low high after. mixed.upper_left k l low high (λ before. after (begun_before k l i j j' low begun before));
+    lower_left = λ k l low high after. mixed.lower_left k l low high (λ before. after (begun_before k l i j j' low begun before));
+  }
 
   -- a row more
   pub row_mixed : (i : ℕ) (term : ℕ → ℕ → ℕ) → Mixed n a b r i n term → Mixed n a b r (suc i) (suc (suc i)) term

@@ -62,17 +62,6 @@ module _ {A : Type 0} (carried : A → ℕ) (n : ℕ) (f : ℕ → ℕ) where
     heard = told_each before told told' f i (carried x) so_far.heard now is;
   }
 
-  -- the same word everywhere, which is the first one
-  pub filled_made : (x : A) (before told : Option (List ℕ)) → 0 < n → carried x ≡ f 0 → told ≡ told_more before (carried x ∷ []) →
-      MadeTo carried n f 1 (replicate n x) before told
-  filled_made x before told some is now = record {
-    count = length-replicate n x;
-    made = λ k lt.
-        let here : k ≡ 0 = omega arith in
-        get_or-map carried (replicate n x) k x 0 (rw (length-replicate n x) (omega arith)) ∙ ap carried (get_or-replicate n k x x (omega arith)) ∙ is ∙ ap f (sym here);
-    heard = now ∙ rw is refl;
-  }
-
   pub all_made : (i : ℕ) (words : List A) (before told : Option (List ℕ)) → i ≡ n → MadeTo carried n f i words before told →
       (map carried words ≡ each f n) × (told ≡ told_more before (each f n))
   all_made i words before told end so_far =

@@ -29,7 +29,9 @@ pub fn xor_gadget<const N: usize>(x: Shares<N>, y: Shares<N>) -> Shares<N>
 {
     prove!(x.count() == N);
     prove!(y.count() == N);
-    Shares::from_parts(xor(&x.parts(), &y.parts(), &mut Unheard))
+    let mut parts = x.parts();
+    xor(&x.parts(), &y.parts(), &mut parts, &mut Unheard);
+    Shares::from_parts(parts)
 }
 
 /// The complement of a value.
@@ -42,7 +44,9 @@ pub fn not_gadget<const N: usize>(x: Shares<N>) -> Shares<N>
     ensures bit { (l : ℕ) → l < 64 → unmasked bits (lane l result) ≡ not (unmasked bits (lane l x.entry)) }
 {
     prove!(x.count() == N);
-    Shares::from_parts(not(&x.parts(), &mut Unheard))
+    let mut parts = x.parts();
+    not(&x.parts(), &mut parts, &mut Unheard);
+    Shares::from_parts(parts)
 }
 
 /// The product of two values, and its wires by their local numbers.
@@ -75,7 +79,9 @@ pub fn and_gadget<const N: usize>(
     prove!(x.count() == N);
     prove!(y.count() == N);
     wires.clear();
-    Shares::from_parts(product(&x.parts(), &y.parts(), coins, wires))
+    let mut parts = x.parts();
+    product(&x.parts(), &y.parts(), &mut parts, coins, wires);
+    Shares::from_parts(parts)
 }
 
 /// The same value under new shares, and the wires by their local numbers.
@@ -100,5 +106,7 @@ pub fn ref_gadget<const N: usize>(x: Shares<N>, coins: &mut Coins, wires: &mut W
 {
     prove!(x.count() == N);
     wires.clear();
-    Shares::from_parts(refresh(&x.parts(), coins, wires))
+    let mut parts = x.parts();
+    refresh(&x.parts(), &mut parts, coins, wires);
+    Shares::from_parts(parts)
 }

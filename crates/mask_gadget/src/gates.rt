@@ -14,22 +14,24 @@ use crate::refresh::refresh;
 use crate::wiring::Wiring;
 use mask_circuit::Gate;
 
-/// The output shares of a gate on the shares of the values before it, computed on this machine.
+/// Writes the output shares of a gate on the shares of the values before it, computed on this machine.
 ///
 /// What the machine is told are the wires of the gate, in the order of their numbers. A product and a refresh draw a coin
 /// for each pair of shares.
+#[inline(always)]
 pub fn gate_on<const N: usize, W: Wiring>(
     gate: Gate,
     values: &[[W::Word; N]],
+    out: &mut [W::Word; N],
     coins: &mut W::Coins,
     wires: &mut W,
-) -> [W::Word; N]
+)
     requires some { 2 ≤ N }
     requires few { N ≤ 8 }
     requires operands { OperandsBelow (length values.now) gate }
     requires coins { gate_draws N gate ≤ left (W.drawn coins.old) }
     requires room { length (gate_names N gate) ≤ W.room wires.old }
-    ensures shares { map W.carried result
+    ensures shares { map W.carried out.new
         ≡ gate_out words N gate (all_listed words (map (map W.carried) values.now)) (ahead (gate_draws N gate) (W.drawn coins.old)) }
     ensures told { W.told wires.new ≡ told_more (W.told wires.old)
         (gate_wires words N gate (all_listed words (map (map W.carried) values.now)) (ahead (gate_draws N gate) (W.drawn coins.old))) }
@@ -38,11 +40,11 @@ pub fn gate_on<const N: usize, W: Wiring>(
     ensures same { (W.drawn coins.new).words ≡ (W.drawn coins.old).words }
 {
     match gate {
-        Gate::Zero => constant(0, wires),
-        Gate::One => constant(u64::MAX, wires),
-        Gate::Xor(u, v) => xor(&values[u as usize], &values[v as usize], wires),
-        Gate::Not(u) => not(&values[u as usize], wires),
-        Gate::And(u, v) => product(&values[u as usize], &values[v as usize], coins, wires),
-        Gate::Ref(u) => refresh(&values[u as usize], coins, wires),
+        Gate::Zero => constant(0, out, wires),
+        Gate::One => constant(u64::MAX, out, wires),
+        Gate::Xor(u, v) => xor(&values[u as usize], &values[v as usize], out, wires),
+        Gate::Not(u) => not(&values[u as usize], out, wires),
+        Gate::And(u, v) => product(&values[u as usize], &values[v as usize], out, coins, wires),
+        Gate::Ref(u) => refresh(&values[u as usize], out, coins, wires),
     }
 }

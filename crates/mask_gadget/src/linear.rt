@@ -10,54 +10,54 @@ ghost use Rattle.mask_gadget.specs.Wiring.{told_more};
 use crate::wiring::Wiring;
 
 /// A value that all may know: share 0 is the word, and the others are 0.
-pub(crate) fn constant<const N: usize, W: Wiring>(word: u64, wires: &mut W) -> [W::Word; N]
+pub(crate) fn constant<const N: usize, W: Wiring>(word: u64, out: &mut [W::Word; N], wires: &mut W)
     requires some { 0 < N }
     requires few { N ≤ 8 }
     requires room { N ≤ W.room wires.old }
-    ensures shares { map W.carried result ≡ each (on_first words word) N }
-    ensures told { W.told wires.new ≡ told_more (W.told wires.old) (map W.carried result) }
+    ensures shares { map W.carried out.new ≡ each (on_first words word) N }
+    ensures told { W.told wires.new ≡ told_more (W.told wires.old) (map W.carried out.new) }
     ensures room { W.room wires.old ≤ W.room wires.new + N }
 {
-    let mut parts = [wires.public(word); N];
+    out[0] = wires.public(word);
     for i in 1..N {
-        parts[i] = wires.public(0);
+        out[i] = wires.public(0);
     }
-    parts
 }
 
 /// The exclusive or of two values.
 pub(crate) fn xor<const N: usize, W: Wiring>(
     x: &[W::Word; N],
     y: &[W::Word; N],
+    out: &mut [W::Word; N],
     wires: &mut W,
-) -> [W::Word; N]
+)
     requires few { N ≤ 8 }
     requires room { N ≤ W.room wires.old }
-    ensures shares { map W.carried result
+    ensures shares { map W.carried out.new
         ≡ gate_out words N (Xor 0 1) (all_listed words (map W.carried x.now ∷ map W.carried y.now ∷ [])) [] }
-    ensures told { W.told wires.new ≡ told_more (W.told wires.old) (map W.carried result) }
+    ensures told { W.told wires.new ≡ told_more (W.told wires.old) (map W.carried out.new) }
     ensures room { W.room wires.old ≤ W.room wires.new + N }
 {
-    let mut parts = *x;
     for i in 0..N {
-        parts[i] = wires.xor(x[i], y[i]);
+        out[i] = wires.xor(x[i], y[i]);
     }
-    parts
 }
 
 /// The complement of a value. Share 0 alone is computed, and the others are wires again.
-pub(crate) fn not<const N: usize, W: Wiring>(x: &[W::Word; N], wires: &mut W) -> [W::Word; N]
+pub(crate) fn not<const N: usize, W: Wiring>(
+    x: &[W::Word; N],
+    out: &mut [W::Word; N],
+    wires: &mut W,
+)
     requires some { 0 < N }
     requires few { N ≤ 8 }
     requires room { N ≤ W.room wires.old }
-    ensures shares { map W.carried result ≡ gate_out words N (Not 0) (all_listed words (map W.carried x.now ∷ [])) [] }
-    ensures told { W.told wires.new ≡ told_more (W.told wires.old) (map W.carried result) }
+    ensures shares { map W.carried out.new ≡ gate_out words N (Not 0) (all_listed words (map W.carried x.now ∷ [])) [] }
+    ensures told { W.told wires.new ≡ told_more (W.told wires.old) (map W.carried out.new) }
     ensures room { W.room wires.old ≤ W.room wires.new + N }
 {
-    let mut parts = *x;
-    parts[0] = wires.not(x[0]);
+    out[0] = wires.not(x[0]);
     for i in 1..N {
-        parts[i] = wires.same(x[i]);
+        out[i] = wires.same(x[i]);
     }
-    parts
 }

@@ -21,14 +21,15 @@ use mask_circuit::other;
 pub(crate) fn product<const N: usize, W: Wiring>(
     x: &[W::Word; N],
     y: &[W::Word; N],
+    out: &mut [W::Word; N],
     coins: &mut W::Coins,
     wires: &mut W,
-) -> [W::Word; N]
+)
     requires some { 2 ≤ N }
     requires few { N ≤ 8 }
     requires coins { length (pairs N) ≤ left (W.drawn coins.old) }
     requires room { length (product_names N) ≤ W.room wires.old }
-    ensures shares { map W.carried result
+    ensures shares { map W.carried out.new
         ≡ gate_out words N (And 0 1) (all_listed words (map W.carried x.now ∷ map W.carried y.now ∷ [])) (coins_of N (W.drawn coins.old)) }
     ensures told { W.told wires.new ≡ told_more (W.told wires.old)
         (gate_wires words N (And 0 1) (all_listed words (map W.carried x.now ∷ map W.carried y.now ∷ [])) (coins_of N (W.drawn coins.old))) }
@@ -36,51 +37,51 @@ pub(crate) fn product<const N: usize, W: Wiring>(
     ensures spent { (W.drawn coins.new).used ≡ (W.drawn coins.old).used + length (pairs N) }
     ensures same { (W.drawn coins.new).words ≡ (W.drawn coins.old).words }
 {
-    let mut terms = products(x, y, wires);
+    let mut terms = [[x[0]; N]; N];
+    multiply(x, y, &mut terms, wires);
     mix(&mut terms, coins, wires);
-    sum_rows(&terms, wires)
+    sum_rows(&terms, out, wires);
 }
 
 // All a_i · b_j, row by row.
-fn products<const N: usize, W: Wiring>(
+fn multiply<const N: usize, W: Wiring>(
     x: &[W::Word; N],
     y: &[W::Word; N],
+    terms: &mut [[W::Word; N]; N],
     wires: &mut W,
-) -> [[W::Word; N]; N]
+)
     requires few { N ≤ 8 }
     requires room { N * N ≤ W.room wires.old }
-    ensures square { IsSquare N result }
-    ensures cells { (i j : ℕ) → i < N → j < N → cell W.carried result i j
+    requires square { IsSquare N terms.old }
+    ensures square { IsSquare N terms.new }
+    ensures cells { (i j : ℕ) → i < N → j < N → cell W.carried terms.new i j
         ≡ bit_and (slice_index (map W.carried x.now) i) (slice_index (map W.carried y.now) j) }
     ensures told { W.told wires.new ≡ told_more (W.told wires.old)
         (joined (λ i. each (λ j. bit_and (slice_index (map W.carried x.now) i) (slice_index (map W.carried y.now) j)) N) N) }
     ensures room { W.room wires.old ≤ W.room wires.new + N * N }
 {
-    let mut terms = [*y; N];
     for i in 0..N {
-        terms[i] = row_of_products(x[i], y, wires);
+        multiply_row(x[i], y, &mut terms[i], wires);
     }
-    terms
 }
 
 // a · b_j for each j.
-fn row_of_products<const N: usize, W: Wiring>(
+fn multiply_row<const N: usize, W: Wiring>(
     share: W::Word,
     y: &[W::Word; N],
+    row: &mut [W::Word; N],
     wires: &mut W,
-) -> [W::Word; N]
+)
     requires few { N ≤ 8 }
     requires room { N ≤ W.room wires.old }
-    ensures row { map W.carried result ≡ each (λ j. bit_and (W.carried share) (slice_index (map W.carried y.now) j)) N }
+    ensures row { map W.carried row.new ≡ each (λ j. bit_and (W.carried share) (slice_index (map W.carried y.now) j)) N }
     ensures told { W.told wires.new ≡ told_more (W.told wires.old)
         (each (λ j. bit_and (W.carried share) (slice_index (map W.carried y.now) j)) N) }
     ensures room { W.room wires.old ≤ W.room wires.new + N }
 {
-    let mut row = *y;
     for j in 0..N {
         row[j] = wires.and(share, y[j]);
     }
-    row
 }
 
 // Puts r_ij in the place of a_i · b_j and r_ji in that of a_j · b_i, for each pair.
@@ -108,7 +109,7 @@ fn mix<const N: usize, W: Wiring>(
     }
 }
 
-// Does so for the pairs of share `i` with each later share.
+// Does so for the pairs of share `i` with each later share. The bounds are the same for each share, so that the loop is unrolled.
 fn mix_row<const N: usize, W: Wiring>(
     terms: &mut [[W::Word; N]; N],
     i: usize,
@@ -132,7 +133,10 @@ fn mix_row<const N: usize, W: Wiring>(
     ensures spent { (W.drawn coins.new).used ≡ (W.drawn coins.old).used + (N - suc i) }
     ensures same { (W.drawn coins.new).words ≡ (W.drawn coins.old).words }
 {
-    for j in i + 1..N {
+    for j in 0..N {
+        if j <= i {
+            continue;
+        }
         // The coin hides the first term before the second is added.
         let fresh = wires.fresh(coins);
         let left = wires.xor(fresh, terms[i][j]);
@@ -143,22 +147,24 @@ fn mix_row<const N: usize, W: Wiring>(
 }
 
 // The sum of each row, which begins with its own term.
-fn sum_rows<const N: usize, W: Wiring>(terms: &[[W::Word; N]; N], wires: &mut W) -> [W::Word; N]
+fn sum_rows<const N: usize, W: Wiring>(
+    terms: &[[W::Word; N]; N],
+    out: &mut [W::Word; N],
+    wires: &mut W,
+)
     requires some { 2 ≤ N }
     requires few { N ≤ 8 }
     requires room { N * (N - 1) ≤ W.room wires.old }
     requires square { IsSquare N terms.now }
     ensures shares { (a b : Shares ℕ) (r : ℕ → ℕ → ℕ) → Mixed N a b r N (suc N) (cell W.carried terms.now) →
-        map W.carried result ≡ each (λ i. product_wire words N a b r (Share i)) N }
+        map W.carried out.new ≡ each (λ i. product_wire words N a b r (Share i)) N }
     ensures told { (a b : Shares ℕ) (r : ℕ → ℕ → ℕ) → Mixed N a b r N (suc N) (cell W.carried terms.now) →
         W.told wires.new ≡ told_more (W.told wires.old) (map (product_wire words N a b r) (joined (row_names N) N)) }
     ensures room { W.room wires.old ≤ W.room wires.new + N * (N - 1) }
 {
-    let mut sums = terms[0];
     for i in 0..N {
-        sums[i] = sum_row(&terms[i], i, wires);
+        out[i] = sum_row(&terms[i], i, wires);
     }
-    sums
 }
 
 // The sum of row `i`: its own term, and then the others one after another.

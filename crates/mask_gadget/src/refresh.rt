@@ -17,14 +17,15 @@ use crate::wiring::Wiring;
 /// then share i and share j with it.
 pub(crate) fn refresh<const N: usize, W: Wiring>(
     x: &[W::Word; N],
+    out: &mut [W::Word; N],
     coins: &mut W::Coins,
     wires: &mut W,
-) -> [W::Word; N]
+)
     requires some { 2 ≤ N }
     requires few { N ≤ 8 }
     requires coins { length (pairs N) ≤ left (W.drawn coins.old) }
     requires room { length (refresh_names N) ≤ W.room wires.old }
-    ensures shares { map W.carried result
+    ensures shares { map W.carried out.new
         ≡ gate_out words N (Ref 0) (all_listed words (map W.carried x.now ∷ [])) (coins_of N (W.drawn coins.old)) }
     ensures told { W.told wires.new ≡ told_more (W.told wires.old)
         (gate_wires words N (Ref 0) (all_listed words (map W.carried x.now ∷ [])) (coins_of N (W.drawn coins.old))) }
@@ -32,14 +33,23 @@ pub(crate) fn refresh<const N: usize, W: Wiring>(
     ensures spent { (W.drawn coins.new).used ≡ (W.drawn coins.old).used + length (pairs N) }
     ensures same { (W.drawn coins.new).words ≡ (W.drawn coins.old).words }
 {
-    let mut parts = *x;
+    copy_shares::<N, W>(x, out);
     for i in 0..N {
-        add_to_row(&mut parts, i, coins, wires);
+        add_to_row(out, i, coins, wires);
     }
-    parts
 }
 
-// Adds a coin to each pair of share `i` with a later share.
+// Copies the shares, the last one first: copied as a block, words that were just written would be waited for.
+fn copy_shares<const N: usize, W: Wiring>(x: &[W::Word; N], out: &mut [W::Word; N])
+    requires few { N ≤ 8 }
+    ensures { out.new ≡ x.now }
+{
+    for i in 0..N {
+        out[N - 1 - i] = x[N - 1 - i];
+    }
+}
+
+// Adds a coin to each pair of share `i` with a later share. The bounds are the same for each share, so that the loop is unrolled.
 fn add_to_row<const N: usize, W: Wiring>(
     parts: &mut [W::Word; N],
     i: usize,
@@ -60,7 +70,10 @@ fn add_to_row<const N: usize, W: Wiring>(
     ensures spent { (W.drawn coins.new).used ≡ (W.drawn coins.old).used + (N - suc i) }
     ensures same { (W.drawn coins.new).words ≡ (W.drawn coins.old).words }
 {
-    for j in i + 1..N {
+    for j in 0..N {
+        if j <= i {
+            continue;
+        }
         let coin = wires.fresh(coins);
         add_to_pair(parts, i, j, coin, wires);
     }

@@ -13,12 +13,12 @@ use Rattle.mask_inspect.specs.Ends.{Takes, Ends, Long, Fails, Does, Breaks, Stop
 use Rattle.mask_inspect.specs.Probing.{RefusesProbes}
 
 -- what an error of the reader says of the bytes
-pub Stops-read : (error : TextError) (before now : Option (List ℕ)) (was is : ℕ) → Explains error before now was is → TakesFront before now →
+pub Stops-read : (error : TextError) (before now : Option (List ℕ)) → Explains error before now → TakesFront before now →
     Takes before now (λ bytes. Stops (Grammar ∷ []) bytes now (status_of error))
-Stops-read (errors.Bad line reason) before now was is h front = (h.0, h.1, Fails h.2 h.3 (inl (line, reason, refl, h.4)))
-Stops-read (errors.TooLong limit) before now was is h front = (h.1.0, h.1.1, Long (ap TooLong h.0) h.1.2)
-Stops-read errors.ReadFault before now was is h front = (front.0, front.1, Breaks (inl refl))
-Stops-read errors.NoMemory before now was is h front = (front.0, front.1, Breaks (inr refl))
+Stops-read (errors.Bad line reason) before now h front = (h.0, h.1, Fails h.2 h.3 (inl (line, reason, refl, h.4)))
+Stops-read (errors.TooLong limit) before now h front = (h.1.0, h.1.1, Long (ap TooLong h.0) h.1.2)
+Stops-read errors.ReadFault before now h front = (front.0, front.1, Breaks (inl refl))
+Stops-read errors.NoMemory before now h front = (front.0, front.1, Breaks (inr refl))
 
 pub IsEarly-read : (error : TextError) → IsEarly (status_of error)
 IsEarly-read (errors.Bad line reason) = tt

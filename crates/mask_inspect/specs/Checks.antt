@@ -1,7 +1,7 @@
 -- What is tested of a circuit text that was read, in order. The first check that fails decides the status.
-use Rattle.std.specs.Prelude.{◌≡◌, ◌⊎◌, ℕ, suc, ◌+◌, ◌/◌, ◌<◌, ◌≤◌, false, List, [], ◌∷◌, length, take, slice_index, Some}
+use Rattle.std.specs.Prelude.{◌≡◌, ◌⊎◌, ℕ, suc, ◌+◌, ◌<◌, ◌≤◌, false, List, [], ◌∷◌, length, take, slice_index, Some}
 use Rattle.std.specs.List.{AllWithin}
-use Rattle.mask_bits.specs.Reading.{low}
+use Rattle.mask_bits.specs.Reading.{low, bytes_for}
 use Rattle.mask_circuit.specs.Netlist.{Netlist}
 use Rattle.mask_circuit.specs.Expansion.{wire_count}
 use Rattle.mask_circuit.specs.Acceptance.{IsAccepted, IsClash}
@@ -31,7 +31,7 @@ StandsFor text P = (c : Netlist) × IsTextOf text c × P c
 
 -- The bytes fit n inputs: there are as many as n bits need, and the bits past these are 0.
 abbrev pub FitInputs : List ℕ → ℕ → Type 0
-FitInputs bytes n = (length bytes ≡ (n + 7) / 8) × AllWithin (λ bit. bit ≡ false) (low bytes) n (length (low bytes))
+FitInputs bytes n = (length bytes ≡ bytes_for n) × AllWithin (λ bit. bit ≡ false) (low bytes) n (length (low bytes))
 
 -- The word at this place is the first WIRE too many; or they aren't too many, and it is the first that names no wire.
 -- The first WIRE is word 5.

@@ -1,5 +1,5 @@
 -- How a run that reads a circuit text ends, by the bytes that it took from the input.
-use Rattle.std.specs.Prelude.{◌≡◌, ◌⊎◌, ℕ, ◌+◌, ◌^◌, ◌<◌, ◌≤◌, List, length}
+use Rattle.std.specs.Prelude.{◌≡◌, ◌⊎◌, ℕ, ◌+◌, ◌^◌, ◌<◌, ◌≤◌, Bool, true, false, List, length}
 use Rattle.std.specs.declared.option.Option.{Option}
 use Rattle.std.specs.Io.KnownBytes.{Appends, Consumes, IsAtEnd}
 use Rattle.mask_io.specs.Outside.{AppendsProperPrefix}
@@ -53,6 +53,19 @@ abbrev pub RefusesCircuit : Netlist → Status → Type 0
 RefusesCircuit c (Refused product source) = IsClash c product source
 RefusesCircuit c NoMemory = Unit {0}
 RefusesCircuit c status = ⊥
+
+-- a fault of the input, of the tape, of the output
+abbrev pub is_read_fault : Status → Bool
+is_read_fault ReadFault = true
+is_read_fault status = false
+
+abbrev pub is_tape_fault : Status → Bool
+is_tape_fault TapeFault = true
+is_tape_fault status = false
+
+abbrev pub is_write_fault : Status → Bool
+is_write_fault WriteFault = true
+is_write_fault status = false
 
 -- the line was written whole with Done, and a proper prefix of it with a fault of writing
 abbrev pub Writes : List ℕ → Option (List ℕ) → Option (List ℕ) → Status → Type 0

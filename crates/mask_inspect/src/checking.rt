@@ -1,11 +1,11 @@
 //! `check`: whether a circuit is accepted, and whether it is strong.
 
 ghost use Rattle.std.specs.Prelude.{◌≡◌, ◌+◌, ◌^◌, ◌≤◌, [], ◌∷◌, IfOk, IfErr};
-ghost use Rattle.mask_io.specs.Outside.{Rose};
+ghost use Rattle.mask_io.specs.Outside.{faults_after};
 ghost use Rattle.mask_text.specs.Answers.{TakesFront};
 ghost use Rattle.mask_check.specs.Costs.{most_steps};
 ghost use Rattle.mask_inspect.specs.Checks.{Grammar, Acceptance};
-ghost use Rattle.mask_inspect.specs.Ends.{Takes, Ends, CostsAtMost, ComesBeforeWriting, RefusesCircuit};
+ghost use Rattle.mask_inspect.specs.Ends.{Takes, Ends, CostsAtMost, ComesBeforeWriting, RefusesCircuit, is_read_fault, is_write_fault};
 ghost use Rattle.mask_inspect.specs.Checking.{PrintsVerdict, IsJudged, TellsStrong, SaysStrong, check_line};
 
 use crate::reading::{admitted, read};
@@ -29,8 +29,8 @@ pub fn check<S: Source, O: Sink, L: Ledger>(
         Ends (2 ^ 25) (Grammar ∷ Acceptance ∷ []) (PrintsVerdict bytes (O.written out.old) (O.written out.new)) bytes (S.left input.new) result
         × CostsAtMost most_steps steps.old steps.new bytes (S.left input.new)) }
     ensures front { TakesFront (S.left input.old) (S.left input.new) }
-    ensures read_fault { result ≡ Status.ReadFault → Rose (S.faults input.old) (S.faults input.new) }
-    ensures write_fault { result ≡ Status.WriteFault → Rose (O.faults out.old) (O.faults out.new) }
+    ensures input_faults { S.faults input.new ≡ faults_after (is_read_fault result) (S.faults input.old) }
+    ensures out_faults { O.faults out.new ≡ faults_after (is_write_fault result) (O.faults out.old) }
     ensures unwritten { ComesBeforeWriting result → out.new ≡ out.old }
     ensures no_tape { result ≡ Status.TapeFault → ⊥ }
 {

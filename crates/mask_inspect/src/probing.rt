@@ -1,7 +1,7 @@
 //! `probe`: which input shares suffice for the wires that a prober reads.
 
 ghost use Rattle.std.specs.Prelude.{◌≡◌, suc, ◌+◌, ◌^◌, ◌<◌, ◌≤◌, [], ◌∷◌, ◌++◌, ◌&&◌, not, length, IfOk, IfErr, OnOk, MatchOption};
-ghost use Rattle.mask_io.specs.Outside.{Rose};
+ghost use Rattle.mask_io.specs.Outside.{faults_after};
 ghost use Rattle.mask_circuit.specs.Wires.{joined};
 ghost use Rattle.mask_text.specs.Answers.{TakesFront};
 ghost use Rattle.mask_check.specs.Costs.{most_steps};
@@ -9,7 +9,7 @@ ghost use Rattle.mask_sni.specs.Asked.{members};
 ghost use Rattle.mask_probe.specs.Asking.{IsProbeRefusal, has_share};
 ghost use Rattle.mask_words.specs.Jobs.{ProbeWords};
 ghost use Rattle.mask_inspect.specs.Checks.{Grammar, Acceptance, Probes};
-ghost use Rattle.mask_inspect.specs.Ends.{Takes, Ends, CostsAtMost, ComesBeforeWriting};
+ghost use Rattle.mask_inspect.specs.Ends.{Takes, Ends, CostsAtMost, ComesBeforeWriting, is_read_fault, is_write_fault};
 ghost use Rattle.mask_inspect.specs.Probing.{wires_of, numbers_text, share_text, need_line, IsNeedReport, RefusesProbes, PrintsNeed};
 
 use crate::reading::{admitted, read};
@@ -43,8 +43,8 @@ pub fn probe<S: Source, O: Sink, L: Ledger>(
         (PrintsNeed bytes order (wires_of words.now) (O.written out.old) (O.written out.new)) bytes (S.left input.new) result
         × CostsAtMost most_steps steps.old steps.new bytes (S.left input.new)) }
     ensures front { TakesFront (S.left input.old) (S.left input.new) }
-    ensures read_fault { result ≡ Status.ReadFault → Rose (S.faults input.old) (S.faults input.new) }
-    ensures write_fault { result ≡ Status.WriteFault → Rose (O.faults out.old) (O.faults out.new) }
+    ensures input_faults { S.faults input.new ≡ faults_after (is_read_fault result) (S.faults input.old) }
+    ensures out_faults { O.faults out.new ≡ faults_after (is_write_fault result) (O.faults out.old) }
     ensures unwritten { ComesBeforeWriting result → out.new ≡ out.old }
     ensures no_tape { result ≡ Status.TapeFault → ⊥ }
 {

@@ -1,13 +1,13 @@
 //! What the commands read: a circuit, and whether it is accepted.
 
-ghost use Rattle.std.specs.Prelude.{◌≡◌, ◌+◌, ◌≤◌, [], ◌∷◌, IfOk, IfErr, IsErrOf};
-ghost use Rattle.mask_io.specs.Outside.{Rose};
+ghost use Rattle.std.specs.Prelude.{◌≡◌, ◌+◌, ◌≤◌, [], ◌∷◌, IfOk, IfErr, MatchResult};
+ghost use Rattle.mask_io.specs.Outside.{faults_after};
 ghost use Rattle.mask_circuit.specs.Acceptance.{IsAccepted};
 ghost use Rattle.mask_text.specs.Answers.{TakesFront};
 ghost use Rattle.mask_check.specs.Costs.{most_steps};
 ghost use Rattle.mask_check.specs.Security.{IsNIAtEachOrder};
 ghost use Rattle.mask_inspect.specs.Checks.{Grammar};
-ghost use Rattle.mask_inspect.specs.Ends.{Takes, IsRead, Stops, IsEarly, RefusesCircuit, status_of};
+ghost use Rattle.mask_inspect.specs.Ends.{Takes, IsRead, Stops, IsEarly, RefusesCircuit, status_of, is_read_fault};
 
 use mask_check::{AdmitError, Admitted, admit};
 use mask_circuit::{Circuit, Steps};
@@ -24,7 +24,9 @@ pub fn read<S: Source>(alloc: Global, input: &mut S) -> Result<Circuit, Status>
         (λ bytes. Stops (Grammar ∷ []) bytes (S.left input.new) status)) }
     ensures early { IfErr result IsEarly }
     ensures front { TakesFront (S.left input.old) (S.left input.new) }
-    ensures read_fault { IsErrOf result Status.ReadFault → Rose (S.faults input.old) (S.faults input.new) }
+    ensures input_faults { MatchResult result
+        (λ _. S.faults input.new ≡ S.faults input.old)
+        (λ status. S.faults input.new ≡ faults_after (is_read_fault status) (S.faults input.old)) }
 {
     match read_circuit(alloc, input) {
         Ok(circuit) => Ok(circuit),

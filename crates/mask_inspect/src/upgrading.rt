@@ -1,11 +1,11 @@
 //! `upgrade`: a circuit text of either version, written in version 2.
 
 ghost use Rattle.std.specs.Prelude.{◌≡◌, ◌^◌, [], ◌∷◌};
-ghost use Rattle.mask_io.specs.Outside.{Rose};
+ghost use Rattle.mask_io.specs.Outside.{faults_after};
 ghost use Rattle.mask_circuit.specs.Text.{canonical2};
 ghost use Rattle.mask_text.specs.Answers.{TakesFront};
 ghost use Rattle.mask_inspect.specs.Checks.{Grammar};
-ghost use Rattle.mask_inspect.specs.Ends.{Takes, Ends, ComesBeforeWriting, Writes};
+ghost use Rattle.mask_inspect.specs.Ends.{Takes, Ends, ComesBeforeWriting, Writes, is_read_fault, is_write_fault};
 ghost use Rattle.mask_inspect.specs.Upgrading.{PrintsSpelling};
 
 use crate::reading::status_of;
@@ -20,8 +20,8 @@ pub fn upgrade<S: Source, O: Sink>(alloc: Global, input: &mut S, out: &mut O) ->
     ensures ends { Takes (S.left input.old) (S.left input.new) (λ bytes.
         Ends (2 ^ 25) (Grammar ∷ []) (PrintsSpelling bytes (O.written out.old) (O.written out.new)) bytes (S.left input.new) result) }
     ensures front { TakesFront (S.left input.old) (S.left input.new) }
-    ensures read_fault { result ≡ Status.ReadFault → Rose (S.faults input.old) (S.faults input.new) }
-    ensures write_fault { result ≡ Status.WriteFault → Rose (O.faults out.old) (O.faults out.new) }
+    ensures input_faults { S.faults input.new ≡ faults_after (is_read_fault result) (S.faults input.old) }
+    ensures out_faults { O.faults out.new ≡ faults_after (is_write_fault result) (O.faults out.old) }
     ensures unwritten { ComesBeforeWriting result → out.new ≡ out.old }
     ensures no_tape { result ≡ Status.TapeFault → ⊥ }
 {
@@ -33,7 +33,7 @@ pub fn upgrade<S: Source, O: Sink>(alloc: Global, input: &mut S, out: &mut O) ->
 
 fn send_spelling<O: Sink>(labelled: &Labelled, out: &mut O) -> Status
     ensures writes { Writes (canonical2 labelled.now) (O.written out.old) (O.written out.new) result }
-    ensures write_fault { result ≡ Status.WriteFault → Rose (O.faults out.old) (O.faults out.new) }
+    ensures out_faults { O.faults out.new ≡ faults_after (is_write_fault result) (O.faults out.old) }
 {
     match write_labelled(labelled, out) {
         Ok(()) => Status::Done,

@@ -1,8 +1,8 @@
 //! The end of a command that writes one report.
 
 ghost use Rattle.std.specs.Prelude.{◌≡◌};
-ghost use Rattle.mask_io.specs.Outside.{Rose};
-ghost use Rattle.mask_inspect.specs.Ends.{Writes};
+ghost use Rattle.mask_io.specs.Outside.{faults_after};
+ghost use Rattle.mask_inspect.specs.Ends.{Writes, is_write_fault};
 
 use mask_io::{Sink, write_all};
 use mask_status::Status;
@@ -10,7 +10,7 @@ use mask_status::Status;
 /// Writes a report, whole or as much of it as the output takes.
 pub fn send<O: Sink>(report: &[u8], out: &mut O) -> Status
     ensures writes { Writes report.now (O.written out.old) (O.written out.new) result }
-    ensures write_fault { result ≡ Status.WriteFault → Rose (O.faults out.old) (O.faults out.new) }
+    ensures out_faults { O.faults out.new ≡ faults_after (is_write_fault result) (O.faults out.old) }
 {
     match write_all(out, report) {
         Ok(()) => Status::Done,

@@ -1,6 +1,16 @@
 -- The words of the outside at worked examples, computed.
-use Rattle.std.proofs.Common.{◌^◌, ◌-◌, [], ◌∷◌, Some, refl, arith, lit<, lit≤}
-use Rattle.mask_io.specs.Outside.{Rose, Gives, Takes, IsProperPrefix, AppendsProperPrefix}
+use Rattle.std.proofs.Common.{◌≡◌, ◌^◌, ◌-◌, true, false, [], ◌∷◌, Some, refl, arith, lit<, lit≤}
+use Rattle.mask_io.specs.Outside.{faults_after, Rose, Gives, Takes, IsProperPrefix, AppendsProperPrefix}
+
+-- a call that fails is counted once, and another isn't
+one_fault : faults_after true 3 ≡ 4
+one_fault = refl
+
+no_fault : faults_after false 3 ≡ 3
+no_fault = refl
+
+last_count : faults_after true (2 ^ 64 - 1) ≡ 2 ^ 64 - 1
+last_count = refl
 
 -- a count that goes from 3 to 4 rose, and one that stays at 3 didn't
 rises : Rose 3 4

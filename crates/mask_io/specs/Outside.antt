@@ -15,10 +15,6 @@ faults_after failed faults = if failed then counted faults else faults
 abbrev pub Rose : ℕ → ℕ → Type 0
 Rose before now = counted before ≤ now
 
--- a count isn't less than before
-abbrev pub NeverFalls : ℕ → ℕ → Type 0
-NeverFalls before now = before ≤ now
-
 -- a read gave n bytes: they stand at the front of the buffer and were the first ones left
 pub record Gives (before now : Option (List ℕ)) (buf filled : List ℕ) (n : ℕ) : Type 0 where
   pub bound : n ≤ length buf
@@ -32,10 +28,9 @@ pub record Accepts (before now : Option (List ℕ)) (piece : List ℕ) (n : ℕ)
   pub appended : Appends before now (take n piece)
   pub progress : 0 < length piece → 0 < n
 
--- a call failed: the count of faults rose, and the bytes are as before
-pub record Fails (before now : Option (List ℕ)) (faults_before faults_now : ℕ) : Type 0 where
-  pub rose : Rose faults_before faults_now
-  pub same : now ≡ before
+-- a call failed: the bytes are as before
+abbrev pub Stays : Option (List ℕ) → Option (List ℕ) → Type 0
+Stays before now = now ≡ before
 
 -- where an entropy tells what is left, that began with these bytes, and they are gone
 abbrev pub Takes : Option (List ℕ) → Option (List ℕ) → List ℕ → Type 0

@@ -7,7 +7,7 @@ ghost use Rattle.std.specs.Prelude.{◌≡◌, length, take, None, IfOk, OnOk, O
 ghost use Rattle.std.specs.Result.{is_err};
 ghost use Rattle.std.specs.Io.{WritesAtMost};
 ghost use Rattle.std.specs.Io.KnownBytes.{Appends, Consumes, ReadConsumes};
-ghost use Rattle.mask_io.specs.Outside.{faults_after, NeverFalls, Gives, Accepts, Takes, Fails};
+ghost use Rattle.mask_io.specs.Outside.{faults_after, Gives, Accepts, Takes, Stays};
 
 use crate::{Entropy, Failed, Sink, Source};
 use std::io::{self, Read, Write};
@@ -49,10 +49,8 @@ impl<R: Read> Source for StdSource<R> {
     // The reader writes into a chunk of this call, so that it can't touch the rest of the buffer.
     fn read(&mut self, buf: &mut [u8]) -> Result<usize, Failed>
         ensures ok { IfOk result (Gives None None buf.old buf.new) }
-        ensures err { OnErr result (Fails None None self.old.faults self.new.faults) }
-        ensures never_falls { NeverFalls self.old.faults self.new.faults }
-        ensures steady { OnOk result (self.new.faults ≡ self.old.faults) }
-        ensures count { self.new.faults ≡ faults_after (is_err result) self.old.faults }
+        ensures err { OnErr result (Stays None None) }
+        ensures counts { self.new.faults ≡ faults_after (is_err result) self.old.faults }
 
         // Where the reader's bytes are known, the source passes them on.
         ensures passes { ReadConsumes (R.remaining self.old.inner) (R.remaining self.new.inner)
@@ -107,10 +105,8 @@ impl<W: Write> Sink for StdSink<W> {
     // A write of no bytes, where there are some, is a failure.
     fn write(&mut self, piece: &[u8]) -> Result<usize, Failed>
         ensures ok { IfOk result (Accepts None None piece.now) }
-        ensures err { OnErr result (Fails None None self.old.faults self.new.faults) }
-        ensures never_falls { NeverFalls self.old.faults self.new.faults }
-        ensures steady { OnOk result (self.new.faults ≡ self.old.faults) }
-        ensures count { self.new.faults ≡ faults_after (is_err result) self.old.faults }
+        ensures err { OnErr result (Stays None None) }
+        ensures counts { self.new.faults ≡ faults_after (is_err result) self.old.faults }
 
         // Where the writer's bytes are known, the sink passes them on.
         ensures passes { IfOk result
@@ -177,13 +173,11 @@ impl<R: Read> Entropy for FileEntropy<R> {
 
     fn fill(&mut self, buf: &mut [u8]) -> Result<(), Failed>
         ensures ok { OnOk result (Takes None None buf.new) }
-        ensures err { OnErr result (Fails None None self.old.faults self.new.faults) }
-        ensures never_falls { NeverFalls self.old.faults self.new.faults }
-        ensures steady { OnOk result (self.new.faults ≡ self.old.faults) }
+        ensures err { OnErr result (Stays None None) }
         ensures wants { MatchResult result
             (λ _. self.new.wanted ≡ self.old.wanted)
             (λ _. self.new.wanted ≡ length buf.old) }
-        ensures count { self.new.faults ≡ faults_after (is_err result) self.old.faults }
+        ensures counts { self.new.faults ≡ faults_after (is_err result) self.old.faults }
 
         // Where the reader's bytes are known, the entropy passes them on.
         ensures passes { OnOk result

@@ -1,8 +1,9 @@
 //! What a program reads, writes and draws: sources, sinks and entropy.
 //!
-//! Each of them counts its faults. A count never falls, and it has 64 bits: at its last value it
-//! stays. A call that answers [`Failed`] has raised the count of the object that it was made on,
-//! so who holds the object before and after a longer run knows whose fault it was.
+//! Each of them counts its faults. A call that answers [`Failed`] raises the count of the object
+//! that it was made on by one, and no other call changes it. It has 64 bits, and stays at its last
+//! value. So who holds the object before and after a longer run knows whose fault it was, and that
+//! nothing failed where no fault was answered.
 //!
 //! An object may tell its bytes: a source and an entropy those that are left, a sink those that
 //! were written. Those in memory tell them. Files and pipes don't, and their clauses on bytes say
@@ -11,7 +12,8 @@
 
 ghost use Rattle.std.specs.Prelude.{◌≡◌, ℕ, List, [], length, Option, IsOk, IfOk, OnOk, OnErr, MatchResult};
 ghost use Rattle.std.specs.Io.KnownBytes.{Appends};
-ghost use Rattle.mask_io.specs.Outside.{Rose, NeverFalls, Gives, Accepts, Takes, Fails, AppendsProperPrefix};
+ghost use Rattle.std.specs.Result.{is_err};
+ghost use Rattle.mask_io.specs.Outside.{faults_after, Gives, Accepts, Takes, Stays, AppendsProperPrefix};
 
 mod adapters;
 mod calls;
@@ -42,10 +44,8 @@ pub trait Source {
     /// or the source is at its end.
     fn read(&mut self, buf: &mut [u8]) -> Result<usize, Failed>
         ensures ok { IfOk result (Gives (left self.old) (left self.new) buf.old buf.new) }
-        ensures err { OnErr result
-            (Fails (left self.old) (left self.new) (faults self.old) (faults self.new)) }
-        ensures never_falls { NeverFalls (faults self.old) (faults self.new) }
-        ensures steady { OnOk result (faults self.new ≡ faults self.old) };
+        ensures err { OnErr result (Stays (left self.old) (left self.new)) }
+        ensures counts { faults self.new ≡ faults_after (is_err result) (faults self.old) };
 }
 
 /// A place to write bytes to.
@@ -59,10 +59,8 @@ pub trait Sink {
     /// Appends bytes from the front of `piece` and says how many: at least one, where there is one.
     fn write(&mut self, piece: &[u8]) -> Result<usize, Failed>
         ensures ok { IfOk result (Accepts (written self.old) (written self.new) piece.now) }
-        ensures err { OnErr result
-            (Fails (written self.old) (written self.new) (faults self.old) (faults self.new)) }
-        ensures never_falls { NeverFalls (faults self.old) (faults self.new) }
-        ensures steady { OnOk result (faults self.new ≡ faults self.old) };
+        ensures err { OnErr result (Stays (written self.old) (written self.new)) }
+        ensures counts { faults self.new ≡ faults_after (is_err result) (faults self.old) };
 }
 
 /// Random bytes, drawn whole or not at all.
@@ -80,10 +78,8 @@ pub trait Entropy {
     /// none. What `buf` holds after a failure isn't said.
     fn fill(&mut self, buf: &mut [u8]) -> Result<(), Failed>
         ensures ok { OnOk result (Takes (left self.old) (left self.new) buf.new) }
-        ensures err { OnErr result
-            (Fails (left self.old) (left self.new) (faults self.old) (faults self.new)) }
-        ensures never_falls { NeverFalls (faults self.old) (faults self.new) }
-        ensures steady { OnOk result (faults self.new ≡ faults self.old) }
+        ensures err { OnErr result (Stays (left self.old) (left self.new)) }
+        ensures counts { faults self.new ≡ faults_after (is_err result) (faults self.old) }
         ensures wants { MatchResult result
             (λ _. wanted self.new ≡ wanted self.old)
             (λ _. wanted self.new ≡ length buf.old) };
@@ -96,9 +92,7 @@ pub fn write_all<O: Sink>(sink: &mut O, piece: &[u8]) -> Result<(), Failed>
     ensures whole { OnOk result (Appends (O.written sink.old) (O.written sink.new) piece.now) }
     ensures part { OnErr result
         (AppendsProperPrefix (O.written sink.old) (O.written sink.new) piece.now) }
-    ensures rose { OnErr result (Rose (O.faults sink.old) (O.faults sink.new)) }
-    ensures never_falls { NeverFalls (O.faults sink.old) (O.faults sink.new) }
-    ensures steady { OnOk result (O.faults sink.new ≡ O.faults sink.old) }
+    ensures counts { O.faults sink.new ≡ faults_after (is_err result) (O.faults sink.old) }
 
     // Nothing to write: the sink isn't called.
     ensures nothing { piece.now ≡ [] → IsOk result × (sink.new ≡ sink.old) }

@@ -2,7 +2,7 @@
 
 ghost use Rattle.std.specs.Prelude.{◌≡◌, ℕ, ◌+◌, ◌<◌, ◌≤◌, ◌↔◌, ◌⊎◌, min, [], length, drop, None, Some, IsOk, IsErr, IfOk, OnOk, OnErr, MatchResult, Contains};
 ghost use Rattle.std.specs.Result.{is_err};
-ghost use Rattle.mask_io.specs.Outside.{counted, NeverFalls, Gives, Accepts, Takes, Fails};
+ghost use Rattle.mask_io.specs.Outside.{faults_after, Gives, Accepts, Takes, Stays};
 ghost use Rattle.mask_io.specs.Memory.{after_call};
 
 use crate::calls::Calls;
@@ -63,10 +63,9 @@ impl Source for MemSource {
 
     fn read(&mut self, buf: &mut [u8]) -> Result<usize, Failed>
         ensures ok { IfOk result (Gives (Some self.old.left) (Some self.new.left) buf.old buf.new) }
-        ensures err { OnErr result (Fails (Some self.old.left) (Some self.new.left)
-            self.old.script.faults self.new.script.faults) }
-        ensures never_falls { NeverFalls self.old.script.faults self.new.script.faults }
-        ensures steady { OnOk result (self.new.script.faults ≡ self.old.script.faults) }
+        ensures err { OnErr result (Stays (Some self.old.left) (Some self.new.left)) }
+        ensures counts { self.new.script.faults
+            ≡ faults_after (is_err result) self.old.script.faults }
         ensures fails { IsErr result ↔ Contains self.old.script.fails self.old.script.made }
         ensures count { IfOk result
             (λ n. n ≡ min self.old.piece (min (length buf.old) (length self.old.left))) }
@@ -128,9 +127,8 @@ impl Source for SureSource {
 
     fn read(&mut self, buf: &mut [u8]) -> Result<usize, Failed>
         ensures ok { IfOk result (Gives (Some self.old) (Some self.new) buf.old buf.new) }
-        ensures err { OnErr result (Fails (Some self.old) (Some self.new) 0 0) }
-        ensures never_falls { NeverFalls 0 0 }
-        ensures steady { OnOk result (◌≡◌ {A = ℕ} 0 0) }
+        ensures err { OnErr result (Stays (Some self.old) (Some self.new)) }
+        ensures counts { ◌≡◌ {A = ℕ} 0 (faults_after (is_err result) 0) }
         ensures never_fails { IsOk result }
         ensures count { IfOk result (λ n. n ≡ min (length buf.old) (length self.old)) }
     {
@@ -169,11 +167,9 @@ impl Source for ClosedSource {
 
     fn read(&mut self, buf: &mut [u8]) -> Result<usize, Failed>
         ensures ok { IfOk result (Gives None None buf.old buf.new) }
-        ensures err { OnErr result (Fails None None self.old self.new) }
-        ensures never_falls { NeverFalls self.old self.new }
-        ensures steady { OnOk result (self.new ≡ self.old) }
+        ensures err { OnErr result (Stays None None) }
+        ensures counts { self.new ≡ faults_after (is_err result) self.old }
         ensures closed { IsErr result }
-        ensures count { self.new ≡ counted self.old }
     {
         self.faults = self.faults.saturating_add(1);
         Err(Failed)
@@ -251,10 +247,9 @@ impl Sink for MemSink {
 
     fn write(&mut self, piece: &[u8]) -> Result<usize, Failed>
         ensures ok { IfOk result (Accepts (Some self.old.written) (Some self.new.written) piece.now) }
-        ensures err { OnErr result (Fails (Some self.old.written) (Some self.new.written)
-            self.old.script.faults self.new.script.faults) }
-        ensures never_falls { NeverFalls self.old.script.faults self.new.script.faults }
-        ensures steady { OnOk result (self.new.script.faults ≡ self.old.script.faults) }
+        ensures err { OnErr result (Stays (Some self.old.written) (Some self.new.written)) }
+        ensures counts { self.new.script.faults
+            ≡ faults_after (is_err result) self.old.script.faults }
         ensures fails { IsErr result
             ↔ (Contains self.old.script.fails self.old.script.made
             ⊎ ((0 < length piece.now) × (self.old.room ≡ 0))) }
@@ -333,10 +328,9 @@ impl Entropy for MemEntropy {
 
     fn fill(&mut self, buf: &mut [u8]) -> Result<(), Failed>
         ensures ok { OnOk result (Takes (Some self.old.left) (Some self.new.left) buf.new) }
-        ensures err { OnErr result (Fails (Some self.old.left) (Some self.new.left)
-            self.old.script.faults self.new.script.faults) }
-        ensures never_falls { NeverFalls self.old.script.faults self.new.script.faults }
-        ensures steady { OnOk result (self.new.script.faults ≡ self.old.script.faults) }
+        ensures err { OnErr result (Stays (Some self.old.left) (Some self.new.left)) }
+        ensures counts { self.new.script.faults
+            ≡ faults_after (is_err result) self.old.script.faults }
         ensures wants { MatchResult result
             (λ _. self.new.wanted ≡ self.old.wanted)
             (λ _. self.new.wanted ≡ length buf.old) }
@@ -403,14 +397,12 @@ impl Entropy for ClosedEntropy {
 
     fn fill(&mut self, buf: &mut [u8]) -> Result<(), Failed>
         ensures ok { OnOk result (Takes None None buf.new) }
-        ensures err { OnErr result (Fails None None self.old.faults self.new.faults) }
-        ensures never_falls { NeverFalls self.old.faults self.new.faults }
-        ensures steady { OnOk result (self.new.faults ≡ self.old.faults) }
+        ensures err { OnErr result (Stays None None) }
+        ensures counts { self.new.faults ≡ faults_after (is_err result) self.old.faults }
         ensures wants { MatchResult result
             (λ _. self.new.wanted ≡ self.old.wanted)
             (λ _. self.new.wanted ≡ length buf.old) }
         ensures closed { IsErr result }
-        ensures count { self.new.faults ≡ counted self.old.faults }
     {
         self.faults = self.faults.saturating_add(1);
         self.wanted = buf.len();

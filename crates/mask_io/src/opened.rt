@@ -2,7 +2,8 @@
 
 ghost use Rattle.std.specs.Prelude.{◌≡◌, ℕ, ◌+◌, ◌%◌, ◌^◌, length, None, IsOk, IsErr, IfOk, OnOk, OnErr, MatchResult, slice_index, EachIndex};
 ghost use Rattle.std.specs.Io.KnownBytes.{Consumes, ReadConsumes};
-ghost use Rattle.mask_io.specs.Outside.{NeverFalls, Gives, Takes, Fails};
+ghost use Rattle.std.specs.Result.{is_err};
+ghost use Rattle.mask_io.specs.Outside.{faults_after, Gives, Takes, Stays};
 ghost use Rattle.mask_io.specs.Seeded.{Seeded, stream_byte};
 ghost use Rattle.mask_io.specs.Adapters.{Counted, Drawn};
 ghost use Rattle.mask_io.specs.Memory.{Refusals};
@@ -37,10 +38,9 @@ impl<R: Read> Source for OpenSource<R> {
 
     fn read(&mut self, buf: &mut [u8]) -> Result<usize, Failed>
         ensures ok { IfOk result (Gives None None buf.old buf.new) }
-        ensures err { OnErr result
-            (Fails None None (source_faults self.old) (source_faults self.new)) }
-        ensures never_falls { NeverFalls (source_faults self.old) (source_faults self.new) }
-        ensures steady { OnOk result (source_faults self.new ≡ source_faults self.old) }
+        ensures err { OnErr result (Stays None None) }
+        ensures counts { source_faults self.new
+            ≡ faults_after (is_err result) (source_faults self.old) }
 
         // Each kind reads as it does by itself, and stays what it is.
         ensures file { (s : Counted R) → self.old ≡ sources.File s → (t : Counted R)
@@ -67,10 +67,9 @@ impl<R: Read> Entropy for OpenEntropy<R> {
 
     fn fill(&mut self, buf: &mut [u8]) -> Result<(), Failed>
         ensures ok { OnOk result (Takes None None buf.new) }
-        ensures err { OnErr result
-            (Fails None None (entropy_faults self.old) (entropy_faults self.new)) }
-        ensures never_falls { NeverFalls (entropy_faults self.old) (entropy_faults self.new) }
-        ensures steady { OnOk result (entropy_faults self.new ≡ entropy_faults self.old) }
+        ensures err { OnErr result (Stays None None) }
+        ensures counts { entropy_faults self.new
+            ≡ faults_after (is_err result) (entropy_faults self.old) }
         ensures wants { MatchResult result
             (λ _. entropy_wanted self.new ≡ entropy_wanted self.old)
             (λ _. entropy_wanted self.new ≡ length buf.old) }

@@ -1,8 +1,9 @@
 //! Entropy from a seed.
 
 ghost use Rattle.std.specs.Prelude.{◌≡◌, ℕ, ◌+◌, ◌%◌, ◌^◌, length, None, IsOk, OnOk, OnErr, slice_index, EachIndex};
+ghost use Rattle.std.specs.Result.{is_err};
 ghost use Rattle.rand_chacha.specs.ChaCha.{key_of};
-ghost use Rattle.mask_io.specs.Outside.{NeverFalls, Takes, Fails};
+ghost use Rattle.mask_io.specs.Outside.{faults_after, Takes, Stays};
 ghost use Rattle.mask_io.specs.Seeded.{stream_byte};
 
 use crate::{Entropy, Failed};
@@ -78,9 +79,8 @@ impl Entropy for SeedEntropy {
 
     fn fill(&mut self, buf: &mut [u8]) -> Result<(), Failed>
         ensures ok { OnOk result (Takes None None buf.new) }
-        ensures err { OnErr result (Fails None None 0 0) }
-        ensures never_falls { NeverFalls 0 0 }
-        ensures steady { OnOk result (◌≡◌ {A = ℕ} 0 0) }
+        ensures err { OnErr result (Stays None None) }
+        ensures counts { ◌≡◌ {A = ℕ} 0 (faults_after (is_err result) 0) }
         ensures never_fails { IsOk result }
 
         // The buffer holds the next bytes of the stream.

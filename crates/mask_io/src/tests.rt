@@ -1,4 +1,4 @@
-ghost use Rattle.std.specs.Prelude.{◌≤◌};
+ghost use Rattle.std.specs.Prelude.{◌≤◌, IfOk};
 
 use crate::{
     ClosedEntropy, Entropy, Failed, FileEntropy, MemEntropy, MemSink, MemSource, OpenEntropy,
@@ -135,7 +135,8 @@ struct Log {
     flushes: u32,
     // Bytes were written that weren't flushed yet.
     is_dirty: bool,
-    // The number of the flush that fails, from 1.
+    // The numbers of the call and of the flush that fail, from 1.
+    failing_call: u32,
     failing_flush: u32,
     bytes: usize,
 }
@@ -144,6 +145,7 @@ const NO_CALL: Log = Log {
     calls: 0,
     flushes: 0,
     is_dirty: false,
+    failing_call: 0,
     failing_flush: 0,
     bytes: 0,
 };
@@ -155,26 +157,29 @@ struct Noting<'a> {
 }
 
 impl Noting<'_> {
-    fn take(&mut self, room: usize) -> usize
-        ensures { result ≤ room }
+    fn take(&mut self, room: usize) -> io::Result<usize>
+        ensures { IfOk result (λ count. count ≤ room) }
     {
         let count = room.min(3_000);
         self.log.calls = self.log.calls.wrapping_add(1);
+        if self.log.calls == self.log.failing_call {
+            return Err(io::Error::from(ErrorKind::Other));
+        }
         self.log.bytes = self.log.bytes.wrapping_add(count);
-        count
+        Ok(count)
     }
 }
 
 impl Read for Noting<'_> {
     fn read(&mut self, buf: &mut [u8]) -> io::Result<usize> {
-        Ok(self.take(buf.len()))
+        self.take(buf.len())
     }
 }
 
 impl Write for Noting<'_> {
     fn write(&mut self, buf: &[u8]) -> io::Result<usize> {
         self.log.is_dirty = true;
-        Ok(self.take(buf.len()))
+        self.take(buf.len())
     }
 
     fn flush(&mut self) -> io::Result<()> {
@@ -220,6 +225,35 @@ fn a_failed_flush_is_a_failure(rt: HostRuntime) {
     assert_eq!(rt; log.calls, 2);
     assert_eq!(rt; log.flushes, 2);
     assert!(rt; log.is_dirty);
+}
+
+// A failed call is the last one: nothing is read or written again, and nothing is flushed.
+#[test]
+fn nothing_follows_a_failure(rt: HostRuntime) {
+    let failing = Log {
+        failing_call: 2,
+        ..NO_CALL
+    };
+    let mut log = failing;
+    {
+        let mut source = StdSource::new(Noting { log: &mut log });
+        assert_eq!(rt; source.read(&mut [0; 8]), Ok(8));
+        assert_eq!(rt; source.read(&mut [0; 8]), Err(Failed));
+    }
+    assert_eq!(rt; log.calls, 2);
+    log = failing;
+    {
+        let mut sink = StdSink::new(Noting { log: &mut log });
+        assert_eq!(rt; write_all(&mut sink, &[7; 10_000]), Err(Failed));
+    }
+    assert_eq!(rt; log.calls, 2);
+    assert_eq!(rt; log.flushes, 1);
+    log = failing;
+    {
+        let mut entropy = FileEntropy::new(Noting { log: &mut log });
+        assert_eq!(rt; entropy.fill(&mut [0; 10_000]), Err(Failed));
+    }
+    assert_eq!(rt; log.calls, 2);
 }
 
 // One read of the source is one read of the reader, with no more bytes than that gives.

@@ -1,9 +1,10 @@
 -- Sums of bits.
-use Rattle.std.proofs.Common.{◌≡◌, ℕ, zero, suc, ◌<◌, Bool, true, false, cond, ◌&&◌, ◌==◌, List, [], ◌∷◌, ◌++◌, refl, ap, ap₂, sym, ◌∙◌, arith}
+use Rattle.std.proofs.Common.{◌≡◌, ℕ, zero, suc, ◌<◌, Bool, true, false, cond, ◌&&◌, ◌==◌, List, [], ◌∷◌, ◌++◌, fold, refl, ap, ap₂, sym, ◌∙◌, arith}
+use Rattle.std.proofs.lemmas.List.Sums.{fold-append}
 use Rattle.mask_circuit.specs.Value.{xor}
 use Rattle.mask_circuit.specs.Ring.{bits}
 use Rattle.mask_circuit.specs.Wires.{each, row_sum}
-use Rattle.mask_laws.specs.Sharing.{xor_all}
+use Rattle.mask_circuit.specs.Sharing.{unmasked}
 use Rattle.mask_laws.proofs.Bits.{xor-false, xor_self, xor_comm, xor_assoc}
 
 -- with `xor_comm` and `xor_assoc` it sorts sums
@@ -34,15 +35,15 @@ abbrev pub total : (ℕ → Bool) → ℕ → Bool
 total f zero = false
 total f (suc n) = xor (total f n) (f n)
 
--- the sum of two lists end to end
-xor_all-append : (xs ys : List Bool) → xor_all (xs ++ ys) ≡ xor (xor_all xs) (xor_all ys)
-xor_all-append [] ys = refl
-xor_all-append (x ∷ xs) ys = ap (xor x) (xor_all-append xs ys) ∙ sym (xor_assoc x (xor_all xs) (xor_all ys))
+-- a sum from a first bit on
+pub fold-xor : (a : Bool) (xs : List Bool) → fold xor a xs ≡ xor a (unmasked bits xs)
+fold-xor a [] = sym (xor-false a)
+fold-xor a (x ∷ xs) = fold-xor (xor a x) xs ∙ xor_assoc a x (unmasked bits xs) ∙ ap (xor a) (sym (fold-xor x xs))
 
 -- the sum of a list that is made by number
-pub xor_all-each : (f : ℕ → Bool) (n : ℕ) → xor_all (each f n) ≡ total f n
-xor_all-each f zero = refl
-xor_all-each f (suc n) = xor_all-append (each f n) (f n ∷ []) ∙ ap₂ xor (xor_all-each f n) (xor-false (f n))
+pub unmasked-each : (f : ℕ → Bool) (n : ℕ) → unmasked bits (each f n) ≡ total f n
+unmasked-each f zero = refl
+unmasked-each f (suc n) = rw (fold-append xor false (each f n) (f n ∷ []), unmasked-each f n) refl
 
 -- the sum of sums is the sum of the terms' sums
 pub total-xor : (f g : ℕ → Bool) (n : ℕ) → total (λ i. xor (f i) (g i)) n ≡ xor (total f n) (total g n)

@@ -2,12 +2,13 @@
 use Rattle.std.proofs.Common.{◌≡◌, true, false, [], ◌∷◌, Some, None, refl, map}
 use Rattle.mask_circuit.specs.declared.gates.Gate.TheVariants.{Xor, Not, And, Ref}
 use Rattle.mask_circuit.specs.Netlist.{Netlist}
+use Rattle.mask_circuit.specs.Ring.{bits}
 use Rattle.mask_circuit.specs.Wires.{each}
-use Rattle.mask_laws.specs.Sharing.{xor_all}
+use Rattle.mask_circuit.specs.Sharing.{unmasked}
 use Rattle.mask_laws.specs.Clashes.{reach, clash}
 
 -- Three shares (1, 0, 1) stand for 0.
-three_shares : (xor_all (true ∷ false ∷ true ∷ []) ≡ false)
+three_shares : unmasked bits (true ∷ false ∷ true ∷ []) ≡ false
 three_shares = refl
 
 -- Inputs 0 and 1, their sum 2, its negation 3, and a product 4 of value 3 by input 1: both reach input 1.

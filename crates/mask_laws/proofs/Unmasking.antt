@@ -12,9 +12,10 @@ use Rattle.mask_circuit.specs.declared.gates.Wire.{Wire}
 use Rattle.mask_circuit.specs.declared.gates.Wire.TheVariants.{Share}
 use Rattle.mask_circuit.specs.Wires.{Shares, each, pairs, fresh_of, cross, product_wire, fresh_between, refresh_wire, gate_draws, gate_wire}
 use Rattle.mask_circuit.specs.Expansion.{Carried, shares_of, put, start, run, expand}
-use Rattle.mask_laws.specs.Sharing.{xor_all, unshared_inputs, ValuesUnmask, OutputsUnmask}
+use Rattle.mask_circuit.specs.Sharing.{unmasked}
+use Rattle.mask_laws.specs.Sharing.{unshared_inputs, ValuesUnmask, OutputsUnmask}
 use Rattle.mask_laws.proofs.Bits.{xor-false, xor_self, xor_comm}
-use Rattle.mask_laws.proofs.BitSums.{total, total-xor, total_same, total_none, xor_all-each, row_sum-total, square}
+use Rattle.mask_laws.proofs.BitSums.{total, total-xor, total_same, total_none, unmasked-each, row_sum-total, square}
 use Rattle.mask_laws.proofs.Carrying.{put-own, put-other}
 use Rattle.mask_circuit.proofs.Places.{length-each, slice_get-each}
 
@@ -70,11 +71,11 @@ refresh_total a r n =
         ∙ square (off (fresh_between r)) (λ i. false) (λ i. false) (off_diagonal (fresh_between r)) pair (suc n) ∙ rw (total_none (suc n)) refl
 
 -- the shares of values below n stand for these values
-abbrev Stand : ℕ → ℕ → Carried Bool → List Bool → Type 0
+abbrev pub Stand : ℕ → ℕ → Carried Bool → List Bool → Type 0
 Stand N n t values = (u : ℕ) → u < n → total (shares_of t u) N ≡ value_at values u
 
 -- the shares of a gate sum to its value on the values before it
-gate_total : (N : ℕ) (g : Gate) (n : ℕ) (t : Carried Bool) (values r : List Bool) → 1 ≤ N → OperandsBelow n g → Stand N n t values →
+pub gate_total : (N : ℕ) (g : Gate) (n : ℕ) (t : Carried Bool) (values r : List Bool) → 1 ≤ N → OperandsBelow n g → Stand N n t values →
     total (λ i. gate_wire bits N g (shares_of t) r (Share i)) N ≡ gate_value g values
 gate_total zero g n t values r one below stand = absurd (omega arith)
 gate_total (suc m) Zero n t values r one below stand = total_none (suc m)
@@ -119,15 +120,15 @@ run_stands N (g ∷ gs) n t values r one are size stand u lt =
 -- and those of the whole circuit
 pub values_unmask : ValuesUnmask
 values_unmask c N x r is one u lt =
-    xor_all-each _ N
+    unmasked-each _ N
     ∙ run_stands N c.gates c.inputs (start bits x) (unshared_inputs c N x) r one is.gates (length-each _ c.inputs)
-    (λ v l. sym (get_or_from_slice_get (unshared_inputs c N x) v _ false (slice_get-each _ c.inputs v l) ∙ xor_all-each (x v) N)) u lt
+    (λ v l. sym (get_or_from_slice_get (unshared_inputs c N x) v _ false (slice_get-each _ c.inputs v l) ∙ unmasked-each (x v) N)) u lt
 
 -- the same at each output
 pub outputs_unmask : OutputsUnmask
 outputs_unmask c N x r is one = at c.outputs is.outputs
   where
     at : (us : List ℕ) → All (λ u. u < value_count c) us →
-        map xor_all (map (λ u. each (shares_of (expand bits c N x r) u) N) us) ≡ map (λ u. value_at (plain_values c (unshared_inputs c N x)) u) us
+        map (unmasked bits) (map (λ u. each (shares_of (expand bits c N x r) u) N) us) ≡ map (λ u. value_at (plain_values c (unshared_inputs c N x)) u) us
     at [] all = refl
     at (u ∷ us) all = ap₂ (λ y z. y ∷ z) (values_unmask c N x r is one u (all 0 0 (omega arith))) (at us (λ k d l. all (suc k) d (omega arith)))

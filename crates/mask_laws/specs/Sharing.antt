@@ -1,19 +1,15 @@
 -- What shares stand for: the sum of the bits, which is the bit that was shared.
-use Rattle.std.specs.Prelude.{◌≡◌, ℕ, ◌<◌, ◌≤◌, Bool, false, List, [], ◌∷◌, map}
+use Rattle.std.specs.Prelude.{◌≡◌, ℕ, ◌<◌, ◌≤◌, Bool, List, map}
 use Rattle.mask_circuit.specs.Netlist.{Netlist, IsWellFormed, value_count}
-use Rattle.mask_circuit.specs.Value.{xor, value_at, plain_values, plain}
+use Rattle.mask_circuit.specs.Value.{value_at, plain_values, plain}
 use Rattle.mask_circuit.specs.Ring.{bits}
 use Rattle.mask_circuit.specs.Wires.{Shares, each}
 use Rattle.mask_circuit.specs.Expansion.{expand, shares_of, outs}
-
--- the sum of all bits of a list
-abbrev pub xor_all : List Bool → Bool
-xor_all [] = false
-xor_all (b ∷ bs) = xor b (xor_all bs)
+use Rattle.mask_circuit.specs.Sharing.{unmasked}
 
 -- the bit that N shares stand for
 abbrev pub unshared : ℕ → Shares Bool → Bool
-unshared N s = xor_all (each s N)
+unshared N s = unmasked bits (each s N)
 
 -- the input bits that the input shares stand for
 abbrev pub unshared_inputs : Netlist → ℕ → (ℕ → Shares Bool) → List Bool
@@ -28,4 +24,4 @@ ValuesUnmask = (c : Netlist) (N : ℕ) (x : ℕ → Shares Bool) (r : List Bool)
 -- .. and so do those of each output.
 abbrev pub OutputsUnmask : Type 0
 OutputsUnmask = (c : Netlist) (N : ℕ) (x : ℕ → Shares Bool) (r : List Bool) → IsWellFormed c → 1 ≤ N →
-    map xor_all (outs bits c N x r) ≡ plain c (unshared_inputs c N x)
+    map (unmasked bits) (outs bits c N x r) ≡ plain c (unshared_inputs c N x)

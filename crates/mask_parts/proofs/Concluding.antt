@@ -1,5 +1,6 @@
 -- From a tidy draft with a fence to the contract of a cipher's circuit.
-use Rattle.std.proofs.Common.{◌≡◌, ℕ, ◌<◌, Bool, List, [], length, All}
+use Rattle.std.proofs.Common.{◌≡◌, ℕ, ◌<◌, Bool, List, [], length, All, Result, Ok, Err, sym, subst}
+use Rattle.std.specs.Result.{IfOk}
 use Rattle.mask_circuit.specs.Netlist.{Netlist, IsCircuit, AreGates, value_count}
 use Rattle.mask_circuit.specs.Value.{plain}
 use Rattle.mask_circuit.specs.Acceptance.{IsStrong, IsTidy}
@@ -24,3 +25,8 @@ IsCipherCircuit-strong named size f c same circuit sized strong computes = recor
   sni = λ N two. strong_is_sni c N two circuit.formed strong;
   computes = computes;
 }
+
+-- what holds of a circuit holds of it as it is handed out
+pub IfOk-same : {A E : Type 0} (a : A) (P : A → Type 0) (r : Result A E) → IfOk r (λ s. s ≡ a) → P a → IfOk r P
+IfOk-same a P (Ok s) same p = subst P (sym same) p
+IfOk-same a P (Err e) same p = tt

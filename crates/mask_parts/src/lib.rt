@@ -4,11 +4,13 @@
 //! so of any call that lays gates, up to a whole circuit, and the record that is the contract of a cipher's circuit.
 #![tactic(auto)]
 
+mod circuits;
 mod fences;
 mod products;
 mod substitution;
 mod tables;
 
+pub use circuits::strong_circuit;
 pub use fences::fence_outputs;
 pub use products::product;
 pub use substitution::sbox4_present;

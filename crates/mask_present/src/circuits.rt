@@ -11,9 +11,9 @@ ghost use Rattle.mask_present.specs.NamedPresent.{named_present, size_present, p
 
 use crate::round::xor_blocks;
 use crate::rounds::present_rounds;
-use mask_check::{AdmitError, StrengthenError, Strong, admit, strengthen};
+use mask_check::Strong;
 use mask_circuit::{Builder, Circuit, CircuitError, Steps};
-use mask_parts::fence_outputs;
+use mask_parts::{fence_outputs, strong_circuit};
 use mask_tasks::KeySize;
 use std::alloc::{AllocError, Global};
 use std::sync::ledger::Ledger;
@@ -100,14 +100,5 @@ pub fn present_circuit<L: Ledger>(
 {
     let circuit = named_circuit(alloc, size)?;
     let _values = circuit.values();
-    let admitted = match admit(alloc, circuit, steps) {
-        Ok(admitted) => admitted,
-        Err(AdmitError::NoMemory) => return Err(AllocError),
-        Err(AdmitError::Refused { .. }) => unreachable!(),
-    };
-    match strengthen(alloc, admitted) {
-        Ok(strong) => Ok(strong),
-        Err(StrengthenError::NoMemory) => Err(AllocError),
-        Err(StrengthenError::NotFenced { .. }) => unreachable!(),
-    }
+    strong_circuit(alloc, circuit, steps)
 }

@@ -1,21 +1,22 @@
 -- Plain bits in lane 0 of words: shared, evaluated and unmasked.
-use Rattle.std.proofs.Common.{◌≡◌, ℕ, suc, ◌+◌, ◌*◌, Bool, true, false, cond, List, [], ◌∷◌, ◌++◌, length, map, take, drop, refl, ap, ap₂, sym, ◌∙◌, ◌==◌, bit_and, arith, lit<}
+use Rattle.std.proofs.Common.{◌≡◌, ℕ, suc, ◌+◌, ◌-◌, ◌*◌, Bool, true, false, cond, List, [], ◌∷◌, ◌++◌, length, map, take, drop, refl, ap, ap₂, sym, ◌∙◌, ◌==◌, bit_and, arith, lit<}
 use Rattle.std.specs.List.{concat}
-use Rattle.std.proofs.lemmas.List.{map-append, take-map, drop-map, take-take, drop-take}
+use Rattle.std.proofs.lemmas.List.{append-nil, length-map, map-append, take-map, drop-map, take-take, drop-take}
 use Rattle.std.proofs.lemmas.Simd.{map-map}
 use Rattle.std.proofs.lemmas.Nat.{and_mask}
 use Rattle.std.proofs.lemmas.Nat.Bits.{bit_at_lowest}
 use Rattle.std.specs.declared.option.Option.{Option}
-use Rattle.mask_bits.specs.Reading.{bit, low}
+use Rattle.mask_bits.specs.Reading.{bit, low, bytes_for}
 use Rattle.mask_bits.specs.Lanes.{lane}
 use Rattle.mask_circuit.specs.Netlist.{Netlist}
 use Rattle.mask_circuit.specs.Ring.{bits, words}
+use Rattle.mask_circuit.specs.Value.{plain}
 use Rattle.mask_circuit.specs.Expansion.{draws, outs}
 use Rattle.mask_shares.specs.Sharing.{all_listed, all_shared, unmasked}
-use Rattle.mask_tape.specs.Tape.{IsDrawn}
-use Rattle.mask_eval.specs.Watching.{Told, reports}
-use Rattle.mask_eval.proofs.Shared.{all_shared_in_lane, unmasked_in_lane, all_shared-unmask, all_shared-take}
-use Rattle.mask_run.specs.Outside.{bytes_for}
+use Rattle.mask_eval.specs.Evaluated.{coin_count, inputs_of, coins_behind, EvaluatesInLanes}
+use Rattle.mask_eval.specs.Watching.{Told, reports, told_more}
+use Rattle.mask_laws.proofs.Sharings.{all_shared-take}
+use Rattle.mask_eval.proofs.Shared.{all_shared_in_lane, unmasked_in_lane, all_shared-unmask}
 use Rattle.mask_run.specs.Calls.{value_by_value, eval_bits, eval_call}
 use Rattle.mask_run.specs.Lanes.{words_of, first_bit}
 
@@ -67,27 +68,21 @@ pub lane-coins : (n used : ℕ) (ws : List ℕ) → lane 0 (take n (drop used ws
 lane-coins n used ws = sym (take-map (bit 0) n (drop used ws)) ∙ ap (take n) (sym (drop-map (bit 0) used ws))
 
 -- what the watch is told of an evaluation on shared bits is the call of `eval`
-pub reported_call : (c : Netlist) (N d : ℕ) (bs : List Bool) (ws seen : List ℕ) (used : ℕ) (inputs outputs : List (List ℕ)) →
-    N ≡ suc d → inputs ≡ all_shared words d (words_of bs) ws → seen ≡ ws → used ≡ d * length bs →
-    map (lane 0) outputs ≡ outs bits c N (all_listed bits (map (lane 0) inputs)) (lane 0 (take (draws c N) (drop used seen))) →
-    reports c d (concat inputs) (take (draws c N) (drop used seen)) (concat outputs) 1 ≡ eval_call c d bs (lane 0 ws) ∷ []
-reported_call c N d bs ws seen used inputs outputs more shared same count evaluated =
+reported_call : (c : Netlist) (d : ℕ) (bs : List Bool) (ws behind : List ℕ) (inputs outputs : List (List ℕ)) →
+    inputs ≡ all_shared words d (words_of bs) ws → behind ≡ take (draws c (suc d)) (drop (d * length bs) ws) →
+    map (lane 0) outputs ≡ outs bits c (suc d) (all_listed bits (map (lane 0) inputs)) (lane 0 behind) →
+    reports c d (concat inputs) behind (concat outputs) 1 ≡ eval_call c d bs (lane 0 ws) ∷ []
+reported_call c d bs ws behind inputs outputs shared next evaluated =
     ap (λ (t : Told). t ∷ [])
     (same_call c d _ _ _ _ _ _ (lane-concat inputs ∙ ap value_by_value shares) coins
-    (lane-concat outputs ∙ ap value_by_value (evaluated ∙ ap₂ (λ (s : List (List Bool)) (t : List Bool). outs bits c N (all_listed bits s) t) shares coins
-    ∙ ap (λ (n : ℕ). outs bits c n (all_listed bits (all_shared bits d bs (lane 0 ws))) tape) more)))
+    (lane-concat outputs
+    ∙ ap value_by_value (evaluated ∙ ap₂ (λ (s : List (List Bool)) (t : List Bool). outs bits c (suc d) (all_listed bits s) t) shares coins)))
   where
-    tape : List Bool
-    tape = take (draws c (suc d)) (drop (d * length bs) (lane 0 ws))
-
     shares : map (lane 0) inputs ≡ all_shared bits d bs (lane 0 ws)
     shares = ap (map (lane 0)) shared ∙ shared_in_lane d bs ws
 
-    coins : lane 0 (take (draws c N) (drop used seen)) ≡ take (draws c (suc d)) (drop (d * length bs) (lane 0 ws))
-    coins =
-        lane-coins (draws c N) used seen
-        ∙ ap (λ (n : ℕ). take (draws c n) (drop used (lane 0 seen))) more
-        ∙ ap₂ (λ (n : ℕ) (xs : List ℕ). take (draws c (suc d)) (drop n (lane 0 xs))) count same
+    coins : lane 0 behind ≡ take (draws c (suc d)) (drop (d * length bs) (lane 0 ws))
+    coins = ap (lane 0) next ∙ lane-coins (draws c (suc d)) (d * length bs) ws
 
 -- the call reads as many bits of the tape as it draws
 pub call-take : (c : Netlist) (d : ℕ) (bs r : List Bool) → length bs ≡ c.inputs → eval_call c d bs (take (eval_bits c d) r) ≡ eval_call c d bs r
@@ -110,18 +105,57 @@ call-take c d bs r count =
         ∙ ap (take (draws c (suc d))) (drop-take (d * length bs) (draws c (suc d)) r)
         ∙ take-take (draws c (suc d)) (draws c (suc d)) (drop (d * length bs) r) (omega arith)
 
--- the coins of one lane that were drawn from a tape that kept nothing are the next bits of new bytes
-pub drawn_call : (c : Netlist) (d : ℕ) (bs kept kept' : List Bool) (before now : Option (List ℕ)) (count : ℕ) (ws : List ℕ) → kept ≡ [] → count ≡ eval_bits c d →
-    length bs ≡ c.inputs → (drawn : IsDrawn kept kept' before now 1 count ws) →
-    (length drawn.fresh ≡ bytes_for (eval_bits c d)) × (eval_call c d bs (lane 0 ws) ≡ eval_call c d bs (low drawn.fresh))
-drawn_call c d bs kept kept' before now count ws none is inputs drawn =
-    (needed, ap (eval_call c d bs) next ∙ call-take c d bs (low drawn.fresh) inputs)
-  where
-    needed : length drawn.fresh ≡ bytes_for (eval_bits c d)
-    needed = let n = ap (λ (k : List Bool). length k) none in omega (arith, drawn.needed, is)
+-- how many bits the call draws
+pub count_is : (c : Netlist) (N d n : ℕ) (bs : List Bool) → N ≡ suc d → n ≡ length (words_of bs) → length bs ≡ c.inputs → coin_count c N n ≡ eval_bits c d
+count_is c N d n bs more many count =
+    let one : N - 1 ≡ d = omega arith in
+    ap₂ (λ (k m : ℕ). k * m + draws c N) one (many ∙ length-map bs (λ b. cond b 1 0) ∙ count) ∙ ap (λ (m : ℕ). d * c.inputs + draws c m) more
 
-    next : lane 0 ws ≡ take (eval_bits c d) (low drawn.fresh)
-    next =
-        drawn.spread.used 0 (lit< tt)
-        ∙ ap₂ (λ (n : ℕ) (k : List Bool). take n (drop (0 * count) (k ++ low drawn.fresh))) is none
-        ∙ ap (λ (n : ℕ). take (eval_bits c d) (drop n (low drawn.fresh))) (let e : 0 * count ≡ 0 = omega arith in e)
+-- the same evaluation where its parts are given otherwise
+pub evaluates-same : (c : Netlist) (N N' : ℕ) (b b' e e' : List (List ℕ)) (ws ws' : List ℕ) (kept kept' after : List Bool) (left left' : Option (List ℕ))
+    (told told' now : Option (List Told)) (outputs : List (List ℕ)) → N' ≡ N → b' ≡ b → e' ≡ e → ws' ≡ ws → kept' ≡ kept → told' ≡ told →
+    EvaluatesInLanes c N 1 b ws e kept after left left' told now outputs → EvaluatesInLanes c N' 1 b' ws' e' kept' after left left' told' now outputs
+evaluates-same c N N' b b' e e' ws ws' kept kept' after left left' told told' now outputs n_is b_is e_is ws_is kept_is told_is run =
+    rw (n_is, b_is, e_is, ws_is, kept_is, told_is) run
+
+-- An evaluation in one lane of a tape that kept nothing, all of whose inputs are shared bits, is the call on the next bits of the tape.
+module _ (c : Netlist) (d : ℕ) (bs : List Bool) (after : List Bool) (before now : Option (List ℕ)) (told told' : Option (List Told)) (outputs : List (List ℕ))
+    (count : length bs ≡ c.inputs) (run : EvaluatesInLanes c (suc d) 1 [] (words_of bs) [] [] after before now told told' outputs) where
+  one : suc d - 1 ≡ d
+  one = omega arith
+
+  many : length (words_of bs) ≡ length bs
+  many = length-map bs (λ b. cond b 1 0)
+
+  total : coin_count c (suc d) (length (words_of bs)) ≡ eval_bits c d
+  total = count_is c (suc d) d (length (words_of bs)) bs refl refl count
+
+  inputs : inputs_of (suc d) [] (words_of bs) [] run.coins ≡ all_shared words d (words_of bs) run.coins
+  inputs =
+      append-nil (all_shared words (suc d - 1) (words_of bs) run.coins) ∙ ap (λ (k : ℕ). all_shared words k (words_of bs) run.coins) one
+
+  behind : coins_behind c (suc d) (length (words_of bs)) run.coins ≡ take (draws c (suc d)) (drop (d * length bs) run.coins)
+  behind = ap₂ (λ (k n : ℕ). take (draws c (suc d)) (drop (k * n) run.coins)) one many
+
+  next : lane 0 run.coins ≡ take (eval_bits c d) (low run.drawn.fresh)
+  next =
+      run.drawn.spread.used 0 (lit< tt)
+      ∙ ap (λ (n : ℕ). take n (drop (0 * n) (low run.drawn.fresh))) total
+      ∙ ap (λ (n : ℕ). take (eval_bits c d) (drop n (low run.drawn.fresh))) (let none : 0 * eval_bits c d ≡ 0 = omega arith in none)
+
+  pub needed : length run.drawn.fresh ≡ bytes_for (eval_bits c d)
+  needed = omega (arith, run.drawn.needed, total)
+
+  pub tells_call : told' ≡ told_more told (eval_call c d bs (low run.drawn.fresh) ∷ [])
+  tells_call =
+      run.tells
+      ∙ ap (λ (k : ℕ). told_more told (reports c k (concat (inputs_of (suc d) [] (words_of bs) [] run.coins))
+      (coins_behind c (suc d) (length (words_of bs)) run.coins) (concat outputs) 1)) one
+      ∙ ap (told_more told)
+      (reported_call c d bs run.coins _ _ outputs inputs behind (run.on_bits 0 (lit< tt))
+      ∙ ap (λ (r : List Bool). eval_call c d bs r ∷ []) next
+      ∙ ap (λ (t : Told). t ∷ []) (call-take c d bs (low run.drawn.fresh) count))
+
+  -- and its outputs stand for the plain ones
+  pub outputs_stand : map first_bit outputs ≡ plain c bs
+  outputs_stand = run.unmasked_are 0 (lit< tt) ∙ ap (plain c) (ap (map first_bit) inputs ∙ shared_first_bits d bs run.coins)

@@ -1,5 +1,3 @@
-pub mod Counts
-pub mod Inputs
 pub mod LaneZero
 pub mod Printing
 pub mod Promises

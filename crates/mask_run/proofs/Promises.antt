@@ -1,9 +1,10 @@
 -- What the command promises of a text that the input tells, and when each answer comes: for all jobs at once, from how a
 -- run ends on the bytes that it took.
-use Rattle.std.proofs.Common.{◌≡◌, ◌⊎◌, ℕ, ◌+◌, ◌≤◌, List, [], ◌∷◌, length, None, Some, refl, sym, ap, ◌∙◌, subst, inl, inr, arith}
+use Rattle.std.proofs.Common.{◌≡◌, ◌⊎◌, ℕ, ◌+◌, ◌≤◌, Bool, true, List, [], ◌∷◌, length, None, Some, refl, sym, ap, ◌∙◌, subst, inl, inr, arith}
 use Rattle.std.proofs.lemmas.List.{append-nil, length-append}
 use Rattle.std.specs.declared.option.Option.{Option}
 use Rattle.std.specs.Io.KnownBytes.{Consumes, IsAtEnd}
+use Rattle.mask_io.specs.Outside.{counted, faults_after, Rose}
 use Rattle.mask_circuit.specs.Netlist.{Netlist}
 use Rattle.mask_text.specs.Text.{IsTextOf}
 use Rattle.mask_words.specs.WordTests.{Word}
@@ -124,3 +125,7 @@ module _ (none : NoneFailsWhereAllPass) (job : Job) (words : List Word) (o : Out
   complete (Does end within pass did) = late (Did-late job words o text status did)
   complete (Breaks (inl read)) = absurd (no_read read)
   complete (Breaks (inr memory)) = inr memory
+
+-- a count that a fault raised rose
+pub raised : (failed : Bool) (before now : ℕ) → now ≡ faults_after failed before → failed ≡ true → Rose before now
+raised failed before now counts is = let now_is : now ≡ counted before = rw is at counts in omega arith

@@ -2,7 +2,7 @@
 use Rattle.std.specs.Prelude.{◌≡◌, ℕ, suc, ◌+◌, ◌*◌, ◌≤◌, Bool, List, [], ◌∷◌, length, take, drop, All}
 use Rattle.std.specs.List.{flat_map}
 use Rattle.std.specs.declared.option.Option.{Option}
-use Rattle.mask_bits.specs.Reading.{low}
+use Rattle.mask_bits.specs.Reading.{low, bytes_for}
 use Rattle.mask_io.specs.Outside.{Takes}
 use Rattle.mask_circuit.specs.Netlist.{Netlist}
 use Rattle.mask_circuit.specs.Ring.{bits}
@@ -12,7 +12,6 @@ use Rattle.mask_circuit.specs.Probing.{IsNI, IsSNI}
 use Rattle.mask_circuit.specs.Privacy.{IsPrivate, IsPrivateCall}
 use Rattle.mask_shares.specs.Sharing.{all_listed, all_shared}
 use Rattle.mask_eval.specs.Watching.{Told, told_more}
-use Rattle.mask_run.specs.Outside.{bytes_for}
 
 -- the shares of all values, one value after another
 abbrev pub value_by_value : List (List Bool) → List Bool

@@ -1,6 +1,7 @@
 -- What `eval` does where no check fails; text is what it took of the input, HEX the last word, and d the order.
 use Rattle.std.specs.Prelude.{◌≡◌, ℕ, ◌≤◌, Bool, List}
 use Rattle.std.specs.declared.option.Option.{Option}
+use Rattle.mask_bits.specs.Reading.{bytes_for}
 use Rattle.mask_circuit.specs.Netlist.{Netlist}
 use Rattle.mask_circuit.specs.Value.{plain}
 use Rattle.mask_circuit.specs.Acceptance.{IsAccepted}
@@ -12,7 +13,7 @@ use Rattle.mask_status.specs.declared.status.Status.TheVariants.{TapeFault}
 use Rattle.mask_inspect.specs.Checks.{FitInputs}
 use Rattle.mask_inspect.specs.Ends.{IsRead, Writes}
 use Rattle.mask_run.specs.Hexadecimal.{input_bits, IsInputOf, IsReport}
-use Rattle.mask_run.specs.Outside.{Outside, IsIdle, bytes_for}
+use Rattle.mask_run.specs.Outside.{Outside, IsIdle}
 use Rattle.mask_run.specs.Calls.{eval_bits, Evaluates}
 
 -- an accepted circuit for which the text stands, and whose inputs HEX fits

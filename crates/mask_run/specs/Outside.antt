@@ -1,5 +1,5 @@
 -- What the objects of the outside show before a run and after it, and which statuses of a job leave them as they were.
-use Rattle.std.specs.Prelude.{◌≡◌, ℕ, ◌+◌, ◌/◌, List}
+use Rattle.std.specs.Prelude.{◌≡◌, ℕ, List}
 use Rattle.std.specs.declared.option.Option.{Option}
 use Rattle.mask_eval.specs.Watching.{Told}
 use Rattle.mask_words.specs.declared.table.Job.{Job}
@@ -21,10 +21,6 @@ pub record Outside : Type 0 where
   pub told_after : Option (List Told)
   pub steps_before : ℕ
   pub steps_after : ℕ
-
--- so many bits, rounded up to bytes
-abbrev pub bytes_for : ℕ → ℕ
-bytes_for bits = (bits + 7) / 8
 
 -- nothing was drawn from the tape, and nothing was told to the watch
 abbrev pub IsIdle : Outside → Type 0

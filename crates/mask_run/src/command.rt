@@ -1,7 +1,7 @@
 //! The top call.
 
 ghost use Rattle.std.specs.Prelude.{◌≡◌, ◌⊎◌, ℕ, ◌+◌, ◌≤◌, [], ◌∷◌, List, Some};
-ghost use Rattle.mask_io.specs.Outside.{Rose};
+ghost use Rattle.mask_io.specs.Outside.{Rose, faults_after};
 ghost use Rattle.mask_circuit.specs.Netlist.{Netlist};
 ghost use Rattle.mask_text.specs.Text.{IsTextOf};
 ghost use Rattle.mask_text.specs.Answers.{TakesFront};
@@ -9,6 +9,7 @@ ghost use Rattle.mask_words.specs.Jobs.{IsJob, IsRefused, HasOrder, HasWords};
 ghost use Rattle.mask_words.specs.declared.table.Job.{Job};
 ghost use Rattle.mask_status.specs.declared.status.Status.{Status};
 ghost use Rattle.mask_status.specs.declared.status.Status.TheVariants.{ReadFault, NoMemory};
+ghost use Rattle.mask_inspect.specs.Ends.{is_read_fault, is_tape_fault, is_write_fault};
 ghost use Rattle.mask_run.specs.Outside.{Outside, LeavesNothing, LeavesTape, LeavesWatch, TellsNothing, WritesNothing};
 ghost use Rattle.mask_run.specs.Calls.{TellsSecureCalls};
 ghost use Rattle.mask_run.specs.Promises.{Runs, EndsOn, IsDue, CanBeDone, OneOf, cost_of, bits_of};
@@ -94,10 +95,10 @@ pub fn mask_main<K: Source, S: Source, E: Entropy, O: Sink, W: Watch, L: Ledger>
     // nothing of the bits that are shared.
     ensures secure { TellsSecureCalls (W.told watch.old) (W.told watch.new) }
 
-    // A fault comes only where the count of its object rose.
-    ensures read_fault { result ≡ Status.ReadFault → Rose (S.faults input.old) (S.faults input.new) }
-    ensures tape_fault { result ≡ Status.TapeFault → Rose (E.faults tape.old) (E.faults tape.new) }
-    ensures write_fault { result ≡ Status.WriteFault → Rose (O.faults out.old) (O.faults out.new) }
+    // A fault is counted once, at its own object. With every other status the count is as before.
+    ensures input_faults { S.faults input.new ≡ faults_after (is_read_fault result) (S.faults input.old) }
+    ensures tape_faults { E.faults tape.new ≡ faults_after (is_tape_fault result) (E.faults tape.old) }
+    ensures out_faults { O.faults out.new ≡ faults_after (is_write_fault result) (O.faults out.old) }
     ensures wants { result ≡ Status.TapeFault → 1 ≤ E.wanted tape.new }
 
     // A tape of which nothing is wanted isn't asked, and a circuit costs at most so many steps.
@@ -152,9 +153,9 @@ fn run_job<S: Source, E: Entropy, O: Sink, W: Watch, L: Ledger>(
         }) (tape.new ≡ tape.old) result }
     ensures front { TakesFront (S.left input.old) (S.left input.new) }
     ensures secure { TellsSecureCalls (W.told watch.old) (W.told watch.new) }
-    ensures read_fault { result ≡ Status.ReadFault → Rose (S.faults input.old) (S.faults input.new) }
-    ensures tape_fault { result ≡ Status.TapeFault → Rose (E.faults tape.old) (E.faults tape.new) }
-    ensures write_fault { result ≡ Status.WriteFault → Rose (O.faults out.old) (O.faults out.new) }
+    ensures input_faults { S.faults input.new ≡ faults_after (is_read_fault result) (S.faults input.old) }
+    ensures tape_faults { E.faults tape.new ≡ faults_after (is_tape_fault result) (E.faults tape.old) }
+    ensures out_faults { O.faults out.new ≡ faults_after (is_write_fault result) (O.faults out.old) }
     ensures wants { result ≡ Status.TapeFault → 1 ≤ E.wanted tape.new }
     ensures undrawn { LeavesTape job result → tape.new ≡ tape.old }
     ensures unwatched { LeavesWatch job result → watch.new ≡ watch.old }

@@ -1,17 +1,19 @@
 //! `eval`: the output bits of a circuit that is evaluated on shares.
 
-ghost use Rattle.std.specs.Prelude.{◌≡◌, ◌+◌, ◌≤◌, [], ◌∷◌, length, IfOk, IfErr, OnOk, OnErr, IsTrue, IsErrOf};
-ghost use Rattle.mask_io.specs.Outside.{Rose};
+ghost use Rattle.std.specs.Prelude.{◌≡◌, ◌+◌, ◌≤◌, [], ◌∷◌, length, IfOk, IfErr, OnOk, OnErr, IsTrue, MatchResult};
+ghost use Rattle.mask_bits.specs.Reading.{bytes_for};
+ghost use Rattle.mask_io.specs.Outside.{faults_after};
 ghost use Rattle.mask_circuit.specs.Value.{plain};
 ghost use Rattle.mask_check.specs.Costs.{most_steps};
 ghost use Rattle.mask_text.specs.Answers.{TakesFront};
+ghost use Rattle.mask_tape.specs.Tape.{failed_to_draw};
 ghost use Rattle.mask_tape.specs.declared.tape.TapeError.TheVariants.{Failed, NoMemory};
 ghost use Rattle.mask_words.specs.WordTests.{is_hex_text};
 ghost use Rattle.mask_words.specs.Jobs.{EvalWords};
 ghost use Rattle.mask_words.specs.declared.table.Job.TheVariants.{Eval};
 ghost use Rattle.mask_inspect.specs.Checks.{Grammar, Inputs, Acceptance};
-ghost use Rattle.mask_inspect.specs.Ends.{Takes, Stops, CostsAtMost, IsEarly};
-ghost use Rattle.mask_run.specs.Outside.{Outside, LeavesTape, LeavesWatch, TellsNothing, WritesNothing, bytes_for};
+ghost use Rattle.mask_inspect.specs.Ends.{Takes, Stops, CostsAtMost, IsEarly, is_read_fault, is_tape_fault, is_write_fault};
+ghost use Rattle.mask_run.specs.Outside.{Outside, LeavesTape, LeavesWatch, TellsNothing, WritesNothing};
 ghost use Rattle.mask_run.specs.Calls.{eval_bits, Evaluates, TellsSecureCalls};
 ghost use Rattle.mask_run.specs.Evaluating.{Prepares};
 ghost use Rattle.mask_run.specs.Hexadecimal.{IsReport};
@@ -60,9 +62,9 @@ pub fn eval<S: Source, E: Entropy, O: Sink, W: Watch, L: Ledger>(
         }) (tape.new ≡ tape.old) result }
     ensures front { TakesFront (S.left input.old) (S.left input.new) }
     ensures secure { TellsSecureCalls (W.told watch.old) (W.told watch.new) }
-    ensures read_fault { result ≡ Status.ReadFault → Rose (S.faults input.old) (S.faults input.new) }
-    ensures tape_fault { result ≡ Status.TapeFault → Rose (E.faults tape.old) (E.faults tape.new) }
-    ensures write_fault { result ≡ Status.WriteFault → Rose (O.faults out.old) (O.faults out.new) }
+    ensures input_faults { S.faults input.new ≡ faults_after (is_read_fault result) (S.faults input.old) }
+    ensures tape_faults { E.faults tape.new ≡ faults_after (is_tape_fault result) (E.faults tape.old) }
+    ensures out_faults { O.faults out.new ≡ faults_after (is_write_fault result) (O.faults out.old) }
     ensures wants { result ≡ Status.TapeFault → 1 ≤ E.wanted tape.new }
     ensures undrawn { LeavesTape (Eval order) result → tape.new ≡ tape.old }
     ensures unwatched { LeavesWatch (Eval order) result → watch.new ≡ watch.old }
@@ -95,7 +97,9 @@ fn prepare<S: Source, L: Ledger>(
         × CostsAtMost most_steps steps.old steps.new bytes (S.left input.new))) }
     ensures early { IfErr result IsEarly }
     ensures front { TakesFront (S.left input.old) (S.left input.new) }
-    ensures read_fault { IsErrOf result Status.ReadFault → Rose (S.faults input.old) (S.faults input.new) }
+    ensures input_faults { MatchResult result
+        (λ _. S.faults input.new ≡ S.faults input.old)
+        (λ status. S.faults input.new ≡ faults_after (is_read_fault status) (S.faults input.old)) }
 {
     let circuit = match read(alloc, input) {
         Ok(circuit) => circuit,
@@ -129,8 +133,9 @@ fn evaluated<E: Entropy, W: Watch, L: Ledger>(
     ensures secure { TellsSecureCalls (W.told watch.old) (W.told watch.new) }
     ensures left { OnErr result (E.left tape.new ≡ E.left tape.old) }
     ensures told { OnErr result (W.told watch.new ≡ W.told watch.old) }
-    ensures failed { IfErr result (λ e. e ≡ Failed → Rose (E.faults tape.old) (E.faults tape.new)
-        × (E.wanted tape.new ≡ bytes_for (eval_bits prepared.now.circuit order)) × (1 ≤ E.wanted tape.new)) }
+    ensures failed { IfErr result (λ e. e ≡ Failed → (E.wanted tape.new ≡ bytes_for (eval_bits prepared.now.circuit order))
+        × (1 ≤ E.wanted tape.new)) }
+    ensures counts { E.faults tape.new ≡ faults_after (failed_to_draw result) (E.faults tape.old) }
     ensures no_memory { IfErr result (λ e. e ≡ NoMemory → tape.new ≡ tape.old) }
     ensures idle { eval_bits prepared.now.circuit order ≡ 0 → tape.new ≡ tape.old }
     ensures steps { steps.new ≤ steps.old + length prepared.now.circuit.gates }

@@ -4,7 +4,7 @@ ghost use Rattle.std.specs.Prelude.{◌≡◌, ℕ, ◌+◌, ◌*◌, ◌/◌, �
 ghost use Rattle.std.specs.List.{AllWithin};
 ghost use Rattle.hex.specs.Hex.{encode_lower};
 ghost use Rattle.mask_words.specs.WordTests.{is_hex_text};
-ghost use Rattle.mask_bits.specs.Reading.{low};
+ghost use Rattle.mask_bits.specs.Reading.{low, bytes_for};
 ghost use Rattle.mask_words.specs.Naming.{hex_bytes};
 ghost use Rattle.mask_inspect.specs.Checks.{FitInputs};
 ghost use Rattle.mask_run.specs.Hexadecimal.{IsInputOf, IsReport};
@@ -65,7 +65,7 @@ pub(crate) struct Report {
 impl Report {
     /// Room for so many bits.
     pub(crate) fn new(alloc: Global, bits: usize) -> Result<Report, AllocError>
-        ensures { IfOk result (λ r. length r.bytes.items ≡ (bits + 7) / 8) }
+        ensures { IfOk result (λ r. length r.bytes.items ≡ bytes_for bits) }
     {
         let bytes = vec![in alloc; 0; bits.div_ceil(8)]?;
         let line = vec![in alloc; b'\n'; 2 * bytes.len() + 1]?;
@@ -74,7 +74,7 @@ impl Report {
 
     /// The bits as lower-case hexadecimal, the first bit of a byte its lowest, and a line feed.
     pub(crate) fn print(self, bits: &Bits) -> Vec<u8>
-        requires { length self.bytes.items ≡ (length bits.now + 7) / 8 }
+        requires { length self.bytes.items ≡ bytes_for (length bits.now) }
         ensures { IsReport bits.now result.items }
     {
         let Report {

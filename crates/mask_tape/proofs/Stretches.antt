@@ -1,8 +1,9 @@
 -- The stretch of a tape: the kept bits of a last byte and then new bytes, and what is kept after it.
-use Rattle.std.proofs.Common.{◌≡◌, ℕ, ◌+◌, ◌-◌, ◌*◌, ◌/◌, ◌≤◌, Bool, List, [], ◌∷◌, ◌++◌, length, drop, get_or, sym, ap, ◌∙◌, arith, length-drop}
-use Rattle.std.proofs.lemmas.List.{drop-append-le, drop-drop, drop_more, drop_all}
+use Rattle.std.proofs.Common.{◌≡◌, ℕ, suc, ◌+◌, ◌-◌, ◌*◌, ◌/◌, ◌≤◌, Bool, List, [], ◌∷◌, ◌++◌, length, drop, get_or, set, sym, ap, ◌∙◌, arith, length-drop}
+use Rattle.std.proofs.lemmas.List.{append-nil, drop-append-le, drop-drop, drop_more, drop_all}
+use borrow.Rule.Slice.PartMut.{put_mid}
 use Rattle.mask_bits.specs.Reading.{low, lowest}
-use Rattle.mask_tape.specs.Tape.{bytes_for, IsSpread}
+use Rattle.mask_tape.specs.Tape.{new_bytes, IsSpread}
 use Rattle.mask_tape.proofs.Windows.{low-drop}
 
 -- the kept bits and the new bytes are all bytes from some bit on
@@ -12,7 +13,7 @@ stretch kept last from fresh le kept_is = sym (drop-append-le from (lowest 8 las
 
 -- how many new bytes n bits need
 pub count_is : (kept : List Bool) (last from n : ℕ) → 1 ≤ from → from ≤ 8 → drop from (low (last ∷ [])) ≡ kept →
-    (from + n - 1) / 8 ≡ bytes_for kept n
+    (from + n - 1) / 8 ≡ new_bytes kept n
 count_is kept last from n some le kept_is =
     let long : length kept ≡ 8 - from = sym (ap length kept_is) ∙ length-drop from (low (last ∷ [])) in omega arith
 
@@ -32,3 +33,10 @@ rest_is bytes from n count long le =
 -- words that are spread, under other names
 pub spread_same : (s s' : List Bool) (lanes b b' : ℕ) (ws ws' : List ℕ) → s' ≡ s → b' ≡ b → ws' ≡ ws → IsSpread s lanes b ws → IsSpread s' lanes b' ws'
 spread_same s s' lanes b b' ws ws' s_is b_is ws_is spread = rw (s_is, b_is, ws_is) spread
+
+-- a byte that is put first, and new ones in the place of all others
+pub put_behind : (bytes buf : List ℕ) (last : ℕ) → 1 ≤ length bytes →
+    put_mid 1 (length (set bytes 0 last) - 1) (set bytes 0 last) buf ≡ last ∷ buf
+put_behind [] buf last some = absurd (omega arith)
+put_behind (b ∷ bytes) buf last some =
+    ap (λ (l : List ℕ). last ∷ (buf ++ l)) (drop_all (suc (length bytes) - 1) bytes (omega arith)) ∙ ap (λ (l : List ℕ). last ∷ l) (append-nil buf)

@@ -2,10 +2,12 @@
 #![tactic(auto)]
 
 mod coins;
+mod room;
 mod spreading;
 mod tape;
 
 pub use coins::Coins;
+pub use room::CoinRoom;
 pub use tape::{Tape, TapeError};
 
 #[cfg(test)]

@@ -1,11 +1,12 @@
 //! The tape: entropy read bit by bit, of which the bits of a last byte are kept.
 
-ghost use Rattle.std.specs.Prelude.{◌≡◌, ℕ, ◌+◌, ◌*◌, ◌^◌, ◌<◌, ◌≤◌, [], ◌∷◌, List, length, IfOk, IfErr, OnOk, OnErr};
-ghost use Rattle.mask_io.specs.Outside.{Takes, Rose, NeverFalls};
-ghost use Rattle.mask_tape.specs.Tape.{bytes_for, IsDrawn};
+ghost use Rattle.std.specs.Prelude.{◌≡◌, ℕ, ◌+◌, ◌*◌, ◌^◌, ◌<◌, ◌≤◌, [], ◌∷◌, List, length, is_err, IfOk, IfErr, OnOk, OnErr};
+ghost use Rattle.mask_io.specs.Outside.{Takes, faults_after};
+ghost use Rattle.mask_tape.specs.Tape.{new_bytes, failed_to_draw, IsDrawn};
 ghost use Rattle.mask_tape.specs.declared.tape.TapeError.TheVariants.{Failed, NoMemory};
 
 use crate::coins::Coins;
+use crate::room::CoinRoom;
 use crate::spreading::spread;
 use mask_io::Entropy;
 use std::alloc::{AllocError, Global};
@@ -65,9 +66,7 @@ impl Tape {
 
     /// Draws `bits` coins for each of the first `lanes` lanes: the next `lanes · bits` bits of the tape.
     ///
-    /// The kept bits come first, and then those of just as many new bytes as are needed, the lowest bit of a byte first.
-    /// Lane l owns bits `l · bits` to `(l + 1) · bits - 1` of this stretch, and word k of the coins has in lane l bit k of
-    /// the lane's own part. The entropy is asked once, for all new bytes, and not at all where none is needed.
+    /// It is [`CoinRoom::new`] and then [`Tape::draw`].
     pub fn reserve<E: Entropy>(
         &mut self,
         alloc: Global,
@@ -84,21 +83,52 @@ impl Tape {
         ensures wants { OnOk result (E.wanted entropy.new ≡ E.wanted entropy.old) }
         ensures same { OnErr result (self.new ≡ self.old) }
         ensures left { OnErr result (E.left entropy.new ≡ E.left entropy.old) }
-        ensures failed { IfErr result (λ e. e ≡ Failed → Rose (E.faults entropy.old) (E.faults entropy.new)
-            × (E.wanted entropy.new ≡ bytes_for self.old (lanes * bits)) × (1 ≤ E.wanted entropy.new)) }
+        ensures failed { IfErr result (λ e. e ≡ Failed → (E.wanted entropy.new ≡ new_bytes self.old (lanes * bits))
+            × (1 ≤ E.wanted entropy.new)) }
         ensures no_memory { IfErr result (λ e. e ≡ NoMemory → entropy.new ≡ entropy.old) }
 
         // No new byte is needed: the entropy isn't asked.
-        ensures unasked { bytes_for self.old (lanes * bits) ≡ 0 → entropy.new ≡ entropy.old }
-        ensures never_falls { NeverFalls (E.faults entropy.old) (E.faults entropy.new) }
+        ensures unasked { new_bytes self.old (lanes * bits) ≡ 0 → entropy.new ≡ entropy.old }
+        ensures counts { E.faults entropy.new ≡ faults_after (failed_to_draw result) (E.faults entropy.old) }
     {
-        let lanes = lanes as usize;
-        let bits = bits as usize;
-        let end = self.from + lanes * bits;
+        let room = CoinRoom::new(alloc, lanes, bits)?;
+        let coins = self.draw(room, entropy)?;
+        Ok(coins)
+    }
+
+    /// Draws the coins that the room is for. It takes no memory.
+    ///
+    /// The kept bits come first, and then those of just as many new bytes as are needed, the lowest bit of a byte first.
+    /// Lane l owns bits `l · bits` to `(l + 1) · bits - 1` of this stretch, and word k of the coins has in lane l bit k of
+    /// the lane's own part. The entropy is asked once, for all new bytes, and not at all where none is needed.
+    pub fn draw<E: Entropy>(
+        &mut self,
+        room: CoinRoom,
+        entropy: &mut E,
+    ) -> Result<Coins, mask_io::Failed>
+        ensures drawn { IfOk result (λ coins.
+            IsDrawn self.old self.new (E.left entropy.old) (E.left entropy.new) room.lanes room.bits coins.words) }
+        ensures unused { IfOk result (λ coins. coins.used ≡ 0) }
+        ensures wants { OnOk result (E.wanted entropy.new ≡ E.wanted entropy.old) }
+        ensures same { OnErr result (self.new ≡ self.old) }
+        ensures left { OnErr result (E.left entropy.new ≡ E.left entropy.old) }
+        ensures failed { OnErr result ((E.wanted entropy.new ≡ new_bytes self.old (room.lanes * room.bits))
+            × (1 ≤ E.wanted entropy.new)) }
+
+        // No new byte is needed: the entropy isn't asked.
+        ensures unasked { new_bytes self.old (room.lanes * room.bits) ≡ 0 → entropy.new ≡ entropy.old }
+        ensures counts { E.faults entropy.new ≡ faults_after (is_err result) (E.faults entropy.old) }
+    {
+        let CoinRoom {
+            lanes,
+            mut words,
+            mut bytes,
+        } = room;
+        let end = self.from + lanes * words.len();
         // Byte 0 is the last one so far, so the stretch ends within byte `count`, and this byte is the last one then.
         let count = (end - 1) / 8;
-        let mut words = vec![in alloc; 0; bits]?;
-        let bytes = draw(alloc, entropy, self.last, count)?;
+        bytes.truncate(count + 1);
+        fill_behind(entropy, self.last, &mut bytes)?;
         spread(&bytes, self.from, lanes, &mut words);
         self.last = bytes[count];
         self.from = end - 8 * count;
@@ -106,28 +136,24 @@ impl Tape {
     }
 }
 
-// This byte, and then `count` new ones.
-fn draw<E: Entropy>(
-    alloc: Global,
+// Puts this byte first, and new ones behind it.
+fn fill_behind<E: Entropy>(
     entropy: &mut E,
     last: u8,
-    count: usize,
-) -> Result<Vec<u8>, TapeError>
-    requires { count ≤ 2 ^ 33 }
-    ensures ok { IfOk result (λ bytes. (fresh : List ℕ) × (bytes.items ≡ last ∷ fresh) × (length fresh ≡ count)
-        × Takes (E.left entropy.old) (E.left entropy.new) fresh) }
+    bytes: &mut [u8],
+) -> Result<(), mask_io::Failed>
+    requires { 1 ≤ length bytes.old }
+    ensures ok { OnOk result ((fresh : List ℕ) × (bytes.new ≡ last ∷ fresh) × Takes (E.left entropy.old) (E.left entropy.new) fresh) }
     ensures wants { OnOk result (E.wanted entropy.new ≡ E.wanted entropy.old) }
     ensures left { OnErr result (E.left entropy.new ≡ E.left entropy.old) }
-    ensures failed { IfErr result (λ e. e ≡ Failed → Rose (E.faults entropy.old) (E.faults entropy.new)
-        × (E.wanted entropy.new ≡ count) × (1 ≤ count)) }
-    ensures no_memory { IfErr result (λ e. e ≡ NoMemory → entropy.new ≡ entropy.old) }
-    ensures unasked { count ≡ 0 → entropy.new ≡ entropy.old }
-    ensures never_falls { NeverFalls (E.faults entropy.old) (E.faults entropy.new) }
+    ensures failed { OnErr result ((E.wanted entropy.new + 1 ≡ length bytes.old) × (1 ≤ E.wanted entropy.new)) }
+    ensures unasked { length bytes.old ≡ 1 → entropy.new ≡ entropy.old }
+    ensures counts { E.faults entropy.new ≡ faults_after (is_err result) (E.faults entropy.old) }
 {
-    let mut bytes = vec![in alloc; 0; count + 1]?;
     bytes[0] = last;
-    if count > 0 {
-        entropy.fill(&mut bytes[1..])?;
+    if bytes.len() == 1 {
+        return Ok(());
     }
-    Ok(bytes)
+    entropy.fill(&mut bytes[1..])?;
+    Ok(())
 }

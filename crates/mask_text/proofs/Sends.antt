@@ -6,7 +6,7 @@ use Rattle.std.proofs.lemmas.List.{take-append-le, drop_all}
 use Rattle.std.proofs.lemmas.List.Concat.{flat_map-append}
 use Rattle.mask_circuit.specs.Labels.{NamedGroup, sizes}
 use Rattle.mask_circuit.specs.Text.{Line, Output, Out, output_lines, line_words, spaced, spelling}
-use Rattle.mask_io.specs.Outside.{Rose, IsProperPrefix, AppendsProperPrefix}
+use Rattle.mask_io.specs.Outside.{IsProperPrefix, AppendsProperPrefix}
 
 -- of the whole text a front was sent, and the rest not yet
 pub record Sent (start now : Option (List ℕ)) (rest whole : List ℕ) : Type 0 where
@@ -121,7 +121,3 @@ pub groups-sent : (groups : List NamedGroup) (i : ℕ) (us : List ℕ) (start no
     → Sent start now (spelling (output_lines (drop i groups) us)) whole → Appends start now whole
 groups-sent groups i us start now whole all s =
     sent-all start now whole (subst (λ (rest : List ℕ). Sent start now rest whole) (ap (λ l. spelling (output_lines l us)) (drop_all i groups all)) s)
-
--- a count that rose later rose
-pub rose_later : (was mid is : ℕ) → was ≤ mid → Rose mid is → Rose was is
-rose_later was mid is before rose = omega arith

@@ -10,12 +10,12 @@ use Rattle.mask_text.specs.Answers.{Answers, IsAnswerTo, IsUnlessFailed, TakesAl
 use Rattle.mask_text.proofs.Complete.{complete}
 
 -- a source that tells its bytes gave all of them
-gave_all : (bytes : List ℕ) (now : Option (List ℕ)) (taken : List ℕ) → Consumes (Some bytes) now taken → IsAtEnd now → taken ≡ bytes
+pub gave_all : (bytes : List ℕ) (now : Option (List ℕ)) (taken : List ℕ) → Consumes (Some bytes) now taken → IsAtEnd now → taken ≡ bytes
 gave_all bytes None taken consumed end = absurd consumed
 gave_all bytes (Some rest) taken consumed end = sym (consumed ∙ ap (λ xs. taken ++ xs) end ∙ append-nil taken)
 
 -- it gave no more than it had
-gave_some : (bytes : List ℕ) (now : Option (List ℕ)) (taken : List ℕ) → Consumes (Some bytes) now taken → length taken ≤ length bytes
+pub gave_some : (bytes : List ℕ) (now : Option (List ℕ)) (taken : List ℕ) → Consumes (Some bytes) now taken → length taken ≤ length bytes
 gave_some bytes None taken consumed = absurd consumed
 gave_some bytes (Some rest) taken consumed = let e = ap length consumed in omega (arith, length-append taken rest)
 
@@ -76,11 +76,11 @@ module _ {A : Type 0} (view : LabelledNetlist → A) (P : A → List ℕ → Typ
     long = λ many. any (Err (TooLong (2 ^ 25)));
   }
 
-  pub decides : (result : Result A TextError) (before now : Option (List ℕ)) (was is : ℕ) → Answers P result before now was is
+  pub decides : (result : Result A TextError) (before now : Option (List ℕ)) → Answers P result before now
       → IfSome before (λ bytes. IsAnswerTo view bytes result)
-  decides result None now was is answers = tt
-  decides (Ok value) (Some bytes) now was is answers = found_decides value bytes now answers
-  decides (Err (Bad line reason)) (Some bytes) now was is answers = bad_decides line reason bytes now answers
-  decides (Err (TooLong limit)) (Some bytes) now was is answers = long_decides limit bytes now answers.0 answers.1
-  decides (Err ReadFault) (Some bytes) now was is answers = failed_decides ReadFault bytes (λ answer. inr (inl refl))
-  decides (Err NoMemory) (Some bytes) now was is answers = failed_decides NoMemory bytes (λ answer. inr (inr refl))
+  decides result None now answers = tt
+  decides (Ok value) (Some bytes) now answers = found_decides value bytes now answers
+  decides (Err (Bad line reason)) (Some bytes) now answers = bad_decides line reason bytes now answers
+  decides (Err (TooLong limit)) (Some bytes) now answers = long_decides limit bytes now answers.0 answers.1
+  decides (Err ReadFault) (Some bytes) now answers = failed_decides ReadFault bytes (λ answer. inr (inl refl))
+  decides (Err NoMemory) (Some bytes) now answers = failed_decides NoMemory bytes (λ answer. inr (inr refl))

@@ -1,7 +1,6 @@
 -- What the answer of a reader says of its source.
-use Rattle.std.specs.Prelude.{◌≡◌, ℕ, ◌+◌, ◌^◌, ◌<◌, ◌≤◌, Option, Some, Result, Ok, Err, List, length, ◌⊎◌}
+use Rattle.std.specs.Prelude.{◌≡◌, ℕ, ◌+◌, ◌^◌, ◌<◌, ◌≤◌, Bool, true, false, Option, Some, Result, Ok, Err, List, length, ◌⊎◌}
 use Rattle.std.specs.Io.KnownBytes.{Consumes, IsAtEnd}
-use Rattle.mask_io.specs.Outside.{Rose}
 use Rattle.mask_text.specs.declared.errors.TextError.{TextError}
 use Rattle.mask_text.specs.declared.errors.TextError.TheVariants.{Bad, TooLong, ReadFault, NoMemory}
 use Rattle.mask_circuit.specs.Labels.{LabelledNetlist}
@@ -20,17 +19,22 @@ TakesAll before now P = (bytes : List ℕ) × Consumes before now bytes × IsAtE
 abbrev pub TakesTooMany : Option (List ℕ) → Option (List ℕ) → Type 0
 TakesTooMany before now = (bytes : List ℕ) × Consumes before now bytes × (2 ^ 25 < length bytes)
 
--- what each error says of the bytes before and now, and of the counts of faults
-abbrev pub Explains : TextError → Option (List ℕ) → Option (List ℕ) → ℕ → ℕ → Type 0
-Explains (Bad line reason) before now was is = TakesAll before now (λ bytes. fault bytes ≡ Some (fault_at line reason))
-Explains (TooLong limit) before now was is = (limit ≡ 2 ^ 25) × TakesTooMany before now
-Explains ReadFault before now was is = Rose was is
-Explains NoMemory before now was is = Unit {0}
+-- what each error says of the bytes before and now
+abbrev pub Explains : TextError → Option (List ℕ) → Option (List ℕ) → Type 0
+Explains (Bad line reason) before now = TakesAll before now (λ bytes. fault bytes ≡ Some (fault_at line reason))
+Explains (TooLong limit) before now = (limit ≡ 2 ^ 25) × TakesTooMany before now
+Explains ReadFault before now = Unit {0}
+Explains NoMemory before now = Unit {0}
 
 -- the same of any answer, where Ok says P of its value and of the text
-abbrev pub Answers : {A : Type 0} → (A → List ℕ → Type 0) → Result A TextError → Option (List ℕ) → Option (List ℕ) → ℕ → ℕ → Type 0
-Answers P (Ok value) before now was is = TakesAll before now (P value)
-Answers P (Err error) before now was is = Explains error before now was is
+abbrev pub Answers : {A : Type 0} → (A → List ℕ → Type 0) → Result A TextError → Option (List ℕ) → Option (List ℕ) → Type 0
+Answers P (Ok value) before now = TakesAll before now (P value)
+Answers P (Err error) before now = Explains error before now
+
+-- the answer is that a read failed
+abbrev pub failed_to_read : {A : Type 0} → Result A TextError → Bool
+failed_to_read (Err ReadFault) = true
+failed_to_read answer = false
 
 -- the answer is this one, unless a read failed or memory ran out
 abbrev pub IsUnlessFailed : {A : Type 0} → Result A TextError → Result A TextError → Type 0

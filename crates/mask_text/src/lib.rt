@@ -20,6 +20,7 @@ mod write;
 
 pub use errors::{Reason, TextError, WriteFault};
 pub use laws::{canonical_stands, text_or_fault};
+pub use lines::{bare, next_line};
 pub use read::{MAX_TEXT, read_text};
 pub use source::{PIECE, read_circuit, read_labelled};
 pub use write::{write_circuit, write_labelled};

@@ -1,8 +1,8 @@
 //! Reading from a source.
 
 ghost use Rattle.std.specs.Prelude.{◌≡◌, IfSome};
-ghost use Rattle.mask_io.specs.Outside.{NeverFalls};
-ghost use Rattle.mask_text.specs.Answers.{TakesFront, Answers, IsAnswerTo};
+ghost use Rattle.mask_io.specs.Outside.{faults_after};
+ghost use Rattle.mask_text.specs.Answers.{TakesFront, Answers, IsAnswerTo, failed_to_read};
 ghost use Rattle.mask_text.specs.Text.{IsText, IsTextOf};
 
 use crate::errors::TextError;
@@ -17,9 +17,9 @@ pub const PIECE: usize = 4_096;
 // All that is left of a source, unless that is too long.
 fn read_all<S: Source>(alloc: Global, source: &mut S) -> Result<Vec<u8>, TextError>
     ensures answer { Answers (λ text bytes. text.items ≡ bytes) result
-        (S.left source.old) (S.left source.new) (S.faults source.old) (S.faults source.new) }
+        (S.left source.old) (S.left source.new) }
     ensures front { TakesFront (S.left source.old) (S.left source.new) }
-    ensures never_falls { NeverFalls (S.faults source.old) (S.faults source.new) }
+    ensures counts { S.faults source.new ≡ faults_after (failed_to_read result) (S.faults source.old) }
 {
     let mut text = Vec::new(alloc);
     let mut piece = [0; PIECE];
@@ -41,9 +41,9 @@ fn read_all<S: Source>(alloc: Global, source: &mut S) -> Result<Vec<u8>, TextErr
 pub fn read_labelled<S: Source>(alloc: Global, source: &mut S) -> Result<Labelled, TextError>
     ensures always { IfSome (S.left source.old) (λ bytes. IsAnswerTo (λ l. l) bytes result) }
     ensures only { Answers (λ l bytes. IsText bytes l) result
-        (S.left source.old) (S.left source.new) (S.faults source.old) (S.faults source.new) }
+        (S.left source.old) (S.left source.new) }
     ensures front { TakesFront (S.left source.old) (S.left source.new) }
-    ensures never_falls { NeverFalls (S.faults source.old) (S.faults source.new) }
+    ensures counts { S.faults source.new ≡ faults_after (failed_to_read result) (S.faults source.old) }
 {
     let text = read_all(alloc, source)?;
     read_text(alloc, &text)
@@ -54,9 +54,9 @@ pub fn read_labelled<S: Source>(alloc: Global, source: &mut S) -> Result<Labelle
 pub fn read_circuit<S: Source>(alloc: Global, source: &mut S) -> Result<Circuit, TextError>
     ensures always { IfSome (S.left source.old) (λ bytes. IsAnswerTo (λ l. l.circuit) bytes result) }
     ensures only { Answers (λ c bytes. IsTextOf bytes c) result
-        (S.left source.old) (S.left source.new) (S.faults source.old) (S.faults source.new) }
+        (S.left source.old) (S.left source.new) }
     ensures front { TakesFront (S.left source.old) (S.left source.new) }
-    ensures never_falls { NeverFalls (S.faults source.old) (S.faults source.new) }
+    ensures counts { S.faults source.new ≡ faults_after (failed_to_read result) (S.faults source.old) }
 {
     let labelled = read_labelled(alloc, source)?;
     Ok(labelled.into_circuit())

@@ -1,7 +1,8 @@
 //! Writing circuits in their one spelling.
 
 ghost use Rattle.std.specs.Prelude.{◌≡◌, ℕ, ◌≤◌, All, length, map};
-ghost use Rattle.mask_io.specs.Outside.{NeverFalls};
+ghost use Rattle.std.specs.Result.{is_err};
+ghost use Rattle.mask_io.specs.Outside.{faults_after};
 ghost use Rattle.mask_circuit.specs.Labels.{sizes, is_name, NamedGroup};
 ghost use Rattle.mask_circuit.specs.Text.{Input, Makes, Out, output_lines, spelling, canonical, canonical2};
 ghost use Rattle.mask_text.specs.Sends.{Sends};
@@ -12,9 +13,8 @@ use mask_circuit::{Circuit, Gate, Group, Labelled};
 use mask_io::{Sink, write_all};
 
 fn write_gates<O: Sink>(sink: &mut O, gates: &[Gate]) -> Result<(), WriteFault>
-    ensures sends { Sends result (O.written sink.old) (O.written sink.new) (O.faults sink.old) (O.faults sink.new)
-        (spelling (map Makes gates.now)) }
-    ensures never_falls { NeverFalls (O.faults sink.old) (O.faults sink.new) }
+    ensures sends { Sends result (O.written sink.old) (O.written sink.new) (spelling (map Makes gates.now)) }
+    ensures counts { O.faults sink.new ≡ faults_after (is_err result) (O.faults sink.old) }
 {
     for gate in gates {
         write_all(sink, &gate_line(*gate))?;
@@ -23,9 +23,8 @@ fn write_gates<O: Sink>(sink: &mut O, gates: &[Gate]) -> Result<(), WriteFault>
 }
 
 fn write_outs<O: Sink>(sink: &mut O, outputs: &[u32]) -> Result<(), WriteFault>
-    ensures sends { Sends result (O.written sink.old) (O.written sink.new) (O.faults sink.old) (O.faults sink.new)
-        (spelling (map Out outputs.now)) }
-    ensures never_falls { NeverFalls (O.faults sink.old) (O.faults sink.new) }
+    ensures sends { Sends result (O.written sink.old) (O.written sink.new) (spelling (map Out outputs.now)) }
+    ensures counts { O.faults sink.new ≡ faults_after (is_err result) (O.faults sink.old) }
 {
     for value in outputs {
         write_all(sink, &numbered(b"out", *value))?;
@@ -34,9 +33,8 @@ fn write_outs<O: Sink>(sink: &mut O, outputs: &[u32]) -> Result<(), WriteFault>
 }
 
 fn write_input_groups<O: Sink>(sink: &mut O, groups: &[Group]) -> Result<(), WriteFault>
-    ensures sends { Sends result (O.written sink.old) (O.written sink.new) (O.faults sink.old) (O.faults sink.new)
-        (spelling (map (λ g. Input g.name g.size) groups.now)) }
-    ensures never_falls { NeverFalls (O.faults sink.old) (O.faults sink.new) }
+    ensures sends { Sends result (O.written sink.old) (O.written sink.new) (spelling (map (λ g. Input g.name g.size) groups.now)) }
+    ensures counts { O.faults sink.new ≡ faults_after (is_err result) (O.faults sink.old) }
 {
     for group in groups {
         write_all(
@@ -54,9 +52,8 @@ fn write_output_groups<O: Sink>(
     outputs: &[u32],
 ) -> Result<(), WriteFault>
     requires { sizes groups.now ≤ length outputs.now }
-    ensures sends { Sends result (O.written sink.old) (O.written sink.new) (O.faults sink.old) (O.faults sink.new)
-        (spelling (output_lines groups.now outputs.now)) }
-    ensures never_falls { NeverFalls (O.faults sink.old) (O.faults sink.new) }
+    ensures sends { Sends result (O.written sink.old) (O.written sink.new) (spelling (output_lines groups.now outputs.now)) }
+    ensures counts { O.faults sink.new ≡ faults_after (is_err result) (O.faults sink.old) }
 {
     let mut rest = outputs;
     for group in groups {
@@ -73,9 +70,8 @@ fn write_output_groups<O: Sink>(
 
 /// Writes a circuit as a text of version 1. It takes no memory.
 pub fn write_circuit<O: Sink>(circuit: &Circuit, sink: &mut O) -> Result<(), WriteFault>
-    ensures sends { Sends result (O.written sink.old) (O.written sink.new) (O.faults sink.old) (O.faults sink.new)
-        (canonical circuit.now) }
-    ensures never_falls { NeverFalls (O.faults sink.old) (O.faults sink.new) }
+    ensures sends { Sends result (O.written sink.old) (O.written sink.new) (canonical circuit.now) }
+    ensures counts { O.faults sink.new ≡ faults_after (is_err result) (O.faults sink.old) }
 {
     write_all(sink, b"masked-circuit 1\n")?;
     write_all(sink, &numbered(b"inputs", circuit.inputs()))?;
@@ -87,9 +83,8 @@ pub fn write_circuit<O: Sink>(circuit: &Circuit, sink: &mut O) -> Result<(), Wri
 
 /// Writes a labelled circuit as a text of version 2. It takes no memory.
 pub fn write_labelled<O: Sink>(labelled: &Labelled, sink: &mut O) -> Result<(), WriteFault>
-    ensures sends { Sends result (O.written sink.old) (O.written sink.new) (O.faults sink.old) (O.faults sink.new)
-        (canonical2 labelled.now) }
-    ensures never_falls { NeverFalls (O.faults sink.old) (O.faults sink.new) }
+    ensures sends { Sends result (O.written sink.old) (O.written sink.new) (canonical2 labelled.now) }
+    ensures counts { O.faults sink.new ≡ faults_after (is_err result) (O.faults sink.old) }
 {
     let circuit = labelled.circuit();
     write_all(sink, b"masked-circuit 2\n")?;

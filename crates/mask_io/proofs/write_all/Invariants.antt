@@ -1,4 +1,4 @@
-use Rattle.std.proofs.Common.{◌≡◌, ◌≤◌, [], length}
+use Rattle.std.proofs.Common.{◌≡◌, [], length}
 use Rattle.mask_io.proofs.Writing.{SoFar}
 use Rattle.mask_io.proofs.write_all.Given as goal
 
@@ -6,7 +6,6 @@ use Rattle.mask_io.proofs.write_all.Given as goal
 abbrev pub invariant-loop-rest : goal.invariant-loop-rest
 invariant-loop-rest g l = record {
   so_far : SoFar (g.O.Sink.written l.initial.sink) (g.O.Sink.written l.sink) l.fn.piece l.rest;
-  faults : g.O.Sink.faults l.initial.sink ≤ g.O.Sink.faults l.sink;
   steady : g.O.Sink.faults l.sink ≡ g.O.Sink.faults l.initial.sink;
   nothing : l.fn.piece ≡ [] → l.sink ≡ l.initial.sink;
 }

@@ -1,4 +1,4 @@
-use Rattle.std.proofs.Common.{◌≡◌, ℕ, ◌+◌, ◌-◌, ◌≤◌, length, ap, ◌∙◌, lit<, arith}
+use Rattle.std.proofs.Common.{◌≡◌, ℕ, ◌+◌, ◌-◌, ◌≤◌, [], length, ap, ◌∙◌, lit<, arith}
 use Rattle.mask_circuit.specs.Netlist.{Netlist}
 use Rattle.mask_circuit.specs.Expansion.{draws}
 use Rattle.mask_tape.specs.Drawn.{left}
@@ -16,7 +16,7 @@ eval-requires g c =
     let circuit = c.in_ok-admitted.admitted in
     let fits = c.set-2.ensures.fits circuit (c.set.ensures.fits circuit c.in_ok-frame.ensures.fits) in
     let few : draws c.in_ok-admitted.admitted g.row.N ≤ left c.in_ok-coins.coins = omega arith in
-    (lit< tt, (c.requires.some, (c.requires.few, (c.requires.some_lanes, (c.requires.few_lanes, (fits, (few, tt)))))))
+    (lit< tt, (c.requires.some, (c.requires.few, (c.requires.some_lanes, (c.requires.few_lanes, (fits, (few, ([], tt))))))))
 
 pub finish-requires : goal.finish-requires
 finish-requires g c =

@@ -23,7 +23,7 @@ product-requires g c =
 
 pub returns-clause-words : goal.returns-clause-words
 returns-clause-words g c =
-    c.from_parts.ensures.value ∙ sym (plain_words c.product.result c.product.result refl) ∙ c.product.ensures.shares
+    c.from_parts.ensures.value ∙ sym (plain_words c.product.new.out c.product.new.out refl) ∙ c.product.ensures.shares
     ∙ ap₂ (λ (x y : List ℕ). gate_out words g.row.N (And 0 1) (all_listed words (x ∷ y ∷ [])) (coins_of g.row.N c.args.coins.now))
     (plain_words c.parts.result c.args.x c.parts.ensures.value) (plain_words c.parts-2.result c.args.y c.parts-2.ensures.value)
 
@@ -46,4 +46,4 @@ pub returns-clause-bit : goal.returns-clause-bit
 returns-clause-bit g c =
     λ l. rw (returns-clause-shares g c l)
     (unmasked-and g.row.N (lane l c.args.x) (lane l c.args.y) (lane l (coins_of g.row.N c.args.coins.now))
-    (length-lane l g.row.N c.args.x c.count.ensures.length) (length-lane l g.row.N c.args.y c.count-2.ensures.length))
+    (length-lane l g.row.N c.args.x c.count.ensures.length) (length-lane l g.row.N c.args.y c.count-2.ensures.length) c.requires.some)

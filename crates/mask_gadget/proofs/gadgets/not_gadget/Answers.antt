@@ -11,7 +11,7 @@ use Rattle.mask_gadget.proofs.gadgets.not_gadget.Goals as goal
 
 pub returns-clause-words : goal.returns-clause-words
 returns-clause-words g c =
-    c.from_parts.ensures.value ∙ sym (plain_words c.not.result c.not.result refl) ∙ c.not.ensures.shares
+    c.from_parts.ensures.value ∙ sym (plain_words c.not.new.out c.not.new.out refl) ∙ c.not.ensures.shares
     ∙ ap (λ (x : List ℕ). gate_out words g.row.N (Not 0) (all_listed words (x ∷ [])) []) (plain_words c.parts.result c.args.x c.parts.ensures.value)
 
 pub returns-clause-shares : goal.returns-clause-shares

@@ -23,7 +23,7 @@ refresh-requires g c =
 
 pub returns-clause-words : goal.returns-clause-words
 returns-clause-words g c =
-    c.from_parts.ensures.value ∙ sym (plain_words c.refresh.result c.refresh.result refl) ∙ c.refresh.ensures.shares
+    c.from_parts.ensures.value ∙ sym (plain_words c.refresh.new.out c.refresh.new.out refl) ∙ c.refresh.ensures.shares
     ∙ ap (λ (x : List ℕ). gate_out words g.row.N (Ref 0) (all_listed words (x ∷ [])) (coins_of g.row.N c.args.coins.now))
     (plain_words c.parts.result c.args.x c.parts.ensures.value)
 
@@ -44,4 +44,5 @@ returns-clause-wires g c =
 pub returns-clause-bit : goal.returns-clause-bit
 returns-clause-bit g c =
     λ l. rw (returns-clause-shares g c l)
-    (unmasked-ref g.row.N (lane l c.args.x) (lane l (coins_of g.row.N c.args.coins.now)) (length-lane l g.row.N c.args.x c.count.ensures.length))
+    (unmasked-ref g.row.N (lane l c.args.x) (lane l (coins_of g.row.N c.args.coins.now)) (length-lane l g.row.N c.args.x c.count.ensures.length)
+    c.requires.some)

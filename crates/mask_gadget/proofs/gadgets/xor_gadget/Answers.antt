@@ -11,7 +11,7 @@ use Rattle.mask_gadget.proofs.gadgets.xor_gadget.Goals as goal
 
 pub returns-clause-words : goal.returns-clause-words
 returns-clause-words g c =
-    c.from_parts.ensures.value ∙ sym (plain_words c.xor.result c.xor.result refl) ∙ c.xor.ensures.shares
+    c.from_parts.ensures.value ∙ sym (plain_words c.xor.new.out c.xor.new.out refl) ∙ c.xor.ensures.shares
     ∙ ap₂ (λ (x y : List ℕ). gate_out words g.row.N (Xor 0 1) (all_listed words (x ∷ y ∷ [])) [])
     (plain_words c.parts.result c.args.x c.parts.ensures.value) (plain_words c.parts-2.result c.args.y c.parts-2.ensures.value)
 

@@ -28,19 +28,19 @@ operand : {A : Type 0} (carried : A → ℕ) (values : List (List A)) (u : ℕ) 
 operand carried values u x lt is = ap (map carried) is ∙ sym (get_or-map (map carried) values u x [] lt)
 
 module _ (g : given.Over) where
-  zero_shares : (c : goal.After-constant g) → map g.W.Wiring.carried c.constant.result
+  zero_shares : (c : goal.After-constant g) → map g.W.Wiring.carried c.constant.new.out
       ≡ gate_out words g.row.N Zero (all_listed words (map (map g.W.Wiring.carried) c.args.values.now)) (ahead 0 (g.W.Wiring.drawn c.args.coins.now))
   zero_shares c =
       c.constant.ensures.shares ∙ each-same (on_first words 0) (λ i. 0) g.row.N (λ i lt. none i)
       ∙ sym (map-each (gate_wire words g.row.N Zero (all_listed words (map (map g.W.Wiring.carried) c.args.values.now)) (ahead 0 (g.W.Wiring.drawn c.args.coins.now))) Share g.row.N)
 
-  one_shares : (c : goal.After-constant-in-One g) → map g.W.Wiring.carried c.constant-in-One.result
+  one_shares : (c : goal.After-constant-in-One g) → map g.W.Wiring.carried c.constant-in-One.new.out
       ≡ gate_out words g.row.N One (all_listed words (map (map g.W.Wiring.carried) c.args.values.now)) (ahead 0 (g.W.Wiring.drawn c.args.coins.now))
   one_shares c =
       c.constant-in-One.ensures.shares
       ∙ sym (map-each (gate_wire words g.row.N One (all_listed words (map (map g.W.Wiring.carried) c.args.values.now)) (ahead 0 (g.W.Wiring.drawn c.args.coins.now))) Share g.row.N)
 
-  xor_shares : (c : goal.After-xor g) → map g.W.Wiring.carried c.xor.result
+  xor_shares : (c : goal.After-xor g) → map g.W.Wiring.carried c.xor.new.out
       ≡ gate_out words g.row.N (Xor c.in-Xor.u c.in-Xor.v) (all_listed words (map (map g.W.Wiring.carried) c.args.values.now)) (ahead 0 (g.W.Wiring.drawn c.args.coins.now))
   xor_shares c =
       let below = rw c.in-Xor.is at c.requires.operands in
@@ -48,7 +48,7 @@ module _ (g : given.Over) where
       let v = operand g.W.Wiring.carried c.args.values.now c.in-Xor.v c.index-values-v.result below.1 c.index-values-v.is in
       c.xor.ensures.shares ∙ rw (u, v) refl
 
-  not_shares : (c : goal.After-not g) → map g.W.Wiring.carried c.not.result
+  not_shares : (c : goal.After-not g) → map g.W.Wiring.carried c.not.new.out
       ≡ gate_out words g.row.N (Not c.in-Not.u) (all_listed words (map (map g.W.Wiring.carried) c.args.values.now)) (ahead 0 (g.W.Wiring.drawn c.args.coins.now))
   not_shares c =
       let below = rw c.in-Not.is at c.requires.operands in

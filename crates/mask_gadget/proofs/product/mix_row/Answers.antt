@@ -5,17 +5,17 @@ use Rattle.mask_tape.specs.Drawn.{Drawn}
 use Rattle.mask_gadget.specs.Wiring.{cell}
 use Rattle.mask_gadget.specs.Gadgets.{IsAtRow, pair_coin, pair_names}
 use Rattle.mask_gadget.proofs.Cells.{both_square, upper_written, lower_written, others_kept}
-use Rattle.mask_gadget.proofs.Mixing.{pair_mixed, pair_terms, row_mixed}
+use Rattle.mask_gadget.proofs.Mixing.{pair_mixed, pair_terms, row_begun, row_mixed}
 use Rattle.mask_gadget.proofs.Pairs.{coin_next, column_more}
 use Rattle.mask_gadget.proofs.Telling.{told_more-none, told_three, word_read}
 use Rattle.mask_gadget.proofs.product.mix_row.Goals as goal
 
 pub loop-j-init : goal.loop-j-init
 loop-j-init g c =
-    let none : c.args.i + 1 - suc c.args.i ≡ 0 = omega arith in
+    let none : 0 - suc c.args.i ≡ 0 = omega arith in
     record {
       square = c.requires.square;
-      cells = λ a b first at mixed. rw (add-one c.args.i) mixed;
+      cells = λ a b first at mixed. row_begun g.row.N a b (pair_coin g.row.N first) c.args.i (suc c.args.i) 0 (cell g.W.Wiring.carried c.args.terms.now) (omega arith) (omega arith) mixed;
       told = λ a b first at mixed. rw none (told_more-none (g.W.Wiring.told c.args.wires.now));
       room = omega arith;
       used = omega arith;
@@ -66,6 +66,20 @@ loop-j-preserved g c =
       room = omega arith;
       used = omega arith;
       same = c.fresh-fresh.ensures.same ∙ c.loop-j.invariant.same;
+    }
+
+pub loop-j-preserved-then-j-i : goal.loop-j-preserved-then-j-i
+loop-j-preserved-then-j-i g c =
+    let none : c.loop-j.j + 1 - suc c.args.i ≡ c.loop-j.j - suc c.args.i = omega arith in
+    record {
+      square = c.loop-j.invariant.square;
+      cells = λ a b first at mixed.
+          row_begun g.row.N a b (pair_coin g.row.N first) c.args.i c.loop-j.j (c.loop-j.j + 1) (cell g.W.Wiring.carried c.loop-j.terms) (omega arith) (omega arith)
+          (c.loop-j.invariant.cells a b first at mixed);
+      told = λ a b first at mixed. rw none (c.loop-j.invariant.told a b first at mixed);
+      room = omega arith;
+      used = omega arith;
+      same = c.loop-j.invariant.same;
     }
 
 pub returns-clause-cells : goal.returns-clause-cells

@@ -11,13 +11,14 @@ use Rattle.mask_gadget.proofs.refresh.add_to_row.Goals as goal
 
 pub loop-j-init : goal.loop-j-init
 loop-j-init g c =
-    let none : c.args.i + 1 - suc c.args.i ≡ 0 = omega arith in
+    let none : 0 - suc c.args.i ≡ 0 = omega arith in
+    let start : suc c.args.i + (0 - suc c.args.i) ≡ c.args.i + 1 = omega arith in
     record {
       told = λ a first at done. rw none (told_more-none (g.W.Wiring.told c.args.wires.now));
       room = omega arith;
       used = omega arith;
       same = refl;
-      parts = λ a first at done. row_begins g.row.N a (pair_coin g.row.N first) c.args.i (map g.W.Wiring.carried c.args.parts.now) c.requires.row done;
+      parts = λ a first at done. rw start (row_begins g.row.N a (pair_coin g.row.N first) c.args.i (map g.W.Wiring.carried c.args.parts.now) c.requires.row done);
     }
 
 pub fresh-coin-requires : goal.fresh-coin-requires
@@ -31,6 +32,8 @@ loop-j-preserved g c =
     let W = g.W.Wiring in
     let low : c.args.i < c.loop-j.j = omega arith in
     let high : c.loop-j.j < g.row.N = c.loop-j-test.true in
+    let here : suc c.args.i + (c.loop-j.j - suc c.args.i) ≡ c.loop-j.j = omega arith in
+    let next : suc c.args.i + (c.loop-j.j + 1 - suc c.args.i) ≡ c.loop-j.j + 1 = omega arith in
     let parts = map g.W.Wiring.carried c.loop-j.parts in
     let coin = g.W.Wiring.carried c.fresh-coin.result in
     let coin_is : (first : Drawn) → IsAtRow g.row.N c.args.i first (g.W.Wiring.drawn c.args.coins.now) → coin ≡ pair_coin g.row.N first c.args.i c.loop-j.j =
@@ -41,17 +44,28 @@ loop-j-preserved g c =
           column_more (refresh_wire words g.row.N a (pair_coin g.row.N first)) (update_names g.row.N) (W.told c.args.wires.now) (W.told c.loop-j.wires) _ c.args.i
           c.loop-j.j _ low (c.loop-j.invariant.told a first at done)
           (told_then (W.told c.loop-j.wires) _ _ (coin ∷ []) _ c.fresh-coin.ensures.told c.add_to_pair.ensures.told)
-          (pair_wires g.row.N a (pair_coin g.row.N first) c.args.i c.loop-j.j coin parts low high (coin_is first at) (c.loop-j.invariant.parts a first at done));
+          (pair_wires g.row.N a (pair_coin g.row.N first) c.args.i c.loop-j.j coin parts low high (coin_is first at) (rw here at c.loop-j.invariant.parts a first at done));
       room = omega arith;
       used = omega arith;
       same = c.fresh-coin.ensures.same ∙ c.loop-j.invariant.same;
-      parts = λ a first at done. rw c.add_to_pair.ensures.parts
-          (pair_done g.row.N a (pair_coin g.row.N first) c.args.i c.loop-j.j coin parts low high (coin_is first at) (c.loop-j.invariant.parts a first at done));
+      parts = λ a first at done. rw (next, c.add_to_pair.ensures.parts)
+          (pair_done g.row.N a (pair_coin g.row.N first) c.args.i c.loop-j.j coin parts low high (coin_is first at) (rw here at c.loop-j.invariant.parts a first at done));
+    }
+
+pub loop-j-preserved-then-j-i : goal.loop-j-preserved-then-j-i
+loop-j-preserved-then-j-i g c =
+    let none : c.loop-j.j + 1 - suc c.args.i ≡ c.loop-j.j - suc c.args.i = omega arith in
+    record {
+      told = λ a first at done. rw none (c.loop-j.invariant.told a first at done);
+      room = omega arith;
+      used = omega arith;
+      same = c.loop-j.invariant.same;
+      parts = λ a first at done. rw none (c.loop-j.invariant.parts a first at done);
     }
 
 pub returns-clause-parts : goal.returns-clause-parts
 returns-clause-parts g c =
-    λ a first at done. row_ends g.row.N a (pair_coin g.row.N first) c.args.i c.loop-j.j (map g.W.Wiring.carried c.loop-j.parts) c.requires.row (omega arith)
+    λ a first at done. row_ends g.row.N a (pair_coin g.row.N first) c.args.i _ (map g.W.Wiring.carried c.loop-j.parts) c.requires.row (omega arith)
     (c.loop-j.invariant.parts a first at done)
 
 pub returns-clause-told : goal.returns-clause-told

@@ -18,5 +18,5 @@ invariant-loop-j g l = record {
   same : (g.W.Wiring.drawn l.coins).words ≡ (g.W.Wiring.drawn l.fn.coins).words;
   parts : (a : ℕ → ℕ) (first : Drawn) → IsAtRow g.row.N l.i first (g.W.Wiring.drawn l.fn.coins) →
       RowsDone g.row.N a (pair_coin g.row.N first) l.i (map g.W.Wiring.carried l.fn.parts) →
-      ColumnsDone g.row.N a (pair_coin g.row.N first) l.i l.j (map g.W.Wiring.carried l.parts);
+      ColumnsDone g.row.N a (pair_coin g.row.N first) l.i (suc l.i + (l.j - suc l.i)) (map g.W.Wiring.carried l.parts);
 }

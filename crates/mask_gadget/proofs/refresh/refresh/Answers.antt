@@ -1,4 +1,4 @@
-use Rattle.std.proofs.Common.{ℕ, suc, ◌-◌, length, map, refl, arith, ◌∙◌, ap, sym}
+use Rattle.std.proofs.Common.{ℕ, suc, ◌-◌, List, length, map, get_or, refl, arith, ◌∙◌, ap, sym}
 use Rattle.std.proofs.lemmas.List.{length-map}
 use Rattle.mask_circuit.specs.Ring.{words}
 use Rattle.mask_circuit.specs.declared.gates.Wire.{Wire}
@@ -21,8 +21,9 @@ loop-i-init g c = record {
   told = told_more-none (g.W.Wiring.told c.args.wires.now);
   room = omega arith;
   at = record { same = refl; used = omega arith };
-  parts = none_done g.row.N (listed words (map g.W.Wiring.carried c.args.x.now)) (pair_coin g.row.N (g.W.Wiring.drawn c.args.coins.now)) (map g.W.Wiring.carried c.args.x.now)
-      (length-map c.args.x.now g.W.Wiring.carried ∙ c.told-x) (λ k. refl);
+  parts = none_done g.row.N (listed words (map g.W.Wiring.carried c.args.x.now)) (pair_coin g.row.N (g.W.Wiring.drawn c.args.coins.now)) (map g.W.Wiring.carried c.copy_shares.new.out)
+      (length-map c.copy_shares.new.out g.W.Wiring.carried ∙ ap length c.copy_shares.ensures ∙ c.told-x)
+      (λ k. ap (λ (ws : List g.row.W-Word.Denot). get_or (map g.W.Wiring.carried ws) k 0) c.copy_shares.ensures);
 }
 
 pub add_to_row-requires : goal.add_to_row-requires
@@ -52,7 +53,7 @@ returns-clause-shares g c =
     let a : ℕ → ℕ = listed words (map g.W.Wiring.carried c.args.x.now) in
     let r : ℕ → ℕ → ℕ = pair_coin g.row.N (g.W.Wiring.drawn c.args.coins.now) in
     let W : Wire → ℕ = refresh_wire words g.row.N a r in
-    let parts = map g.W.Wiring.carried c.loop-i.parts in
+    let parts = map g.W.Wiring.carried c.loop-i.out in
     is_each (λ k. W (Share k)) g.row.N parts c.loop-i.invariant.parts.count (all_done g.row.N a r c.loop-i.i parts (omega arith) (omega arith) c.loop-i.invariant.parts)
     ∙ sym (map-each W Share g.row.N)
 

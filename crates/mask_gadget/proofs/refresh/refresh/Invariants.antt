@@ -14,5 +14,5 @@ invariant-loop-i g l = record {
       (joined (λ k. update_row g.row.N k (g.row.N - suc k)) l.i));
   room : g.W.Wiring.room l.fn.wires ≤ g.W.Wiring.room l.wires + 3 * pairs_before g.row.N l.i;
   at : IsAtRow g.row.N l.i (g.W.Wiring.drawn l.fn.coins) (g.W.Wiring.drawn l.coins);
-  parts : RowsDone g.row.N (listed words (map g.W.Wiring.carried l.x)) (pair_coin g.row.N (g.W.Wiring.drawn l.fn.coins)) l.i (map g.W.Wiring.carried l.parts);
+  parts : RowsDone g.row.N (listed words (map g.W.Wiring.carried l.x)) (pair_coin g.row.N (g.W.Wiring.drawn l.fn.coins)) l.i (map g.W.Wiring.carried l.out);
 }

@@ -11,5 +11,5 @@ returns-in-Ok-clause-ends g c =
 
 pub returns-in-Err-clause-ends : goal.returns-in-Err-clause-ends
 returns-in-Err-clause-ends g c =
-    let taken = Stops-read c.in-Err.error _ _ _ _ c.in-Err.ensures.only c.read_labelled.ensures.front in
+    let taken = Stops-read c.in-Err.error _ _ c.in-Err.ensures.only c.read_labelled.ensures.front in
     (taken.0, taken.1, rw c.status_of.ensures (Ends-stopped (Grammar ∷ []) [] _ taken.0 _ _ taken.2))

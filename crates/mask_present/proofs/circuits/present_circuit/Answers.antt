@@ -1,19 +1,11 @@
-use Rattle.std.proofs.Common.{subst, sym, ◌∙◌}
-use Rattle.mask_circuit.specs.Netlist.{IsCircuit}
+use Rattle.mask_parts.proofs.Concluding.{IfOk-same}
 use Rattle.mask_present.proofs.Concluding.{IsStrong-made, IsCipherCircuit-made}
 use Rattle.mask_present.proofs.circuits.present_circuit.Goals as goal
 
-pub unreachable-requires : goal.unreachable-requires
-unreachable-requires g c =
-    let clash = rw c.in-Err-Refused.field-0-is at c.in-Err-Refused.ensures.refused in
-    (IsStrong-made c.args.size c.in_ok-circuit.circuit c.in_ok-circuit.ensures c.values-values.ensures.circuit).0 _ _ clash.shared
+pub strong_circuit-requires : goal.strong_circuit-requires
+strong_circuit-requires g c = IsStrong-made c.args.size c.in_ok-circuit.circuit c.in_ok-circuit.ensures c.values-values.ensures.circuit
 
-pub unreachable-requires-in-Err-NotFenced : goal.unreachable-requires-in-Err-NotFenced
-unreachable-requires-in-Err-NotFenced g c =
-    let gap = rw (c.in-Err-NotFenced.field-0-is, c.in-Ok.ensures.admitted) at c.in-Err-NotFenced.ensures.refused in
-    gap.gap ((IsStrong-made c.args.size c.in_ok-circuit.circuit c.in_ok-circuit.ensures c.values-values.ensures.circuit).1 _ gap.within)
-
-pub returns-in-Ok-strengthen-clause-circuit : goal.returns-in-Ok-strengthen-clause-circuit
-returns-in-Ok-strengthen-clause-circuit g c =
-    let made = c.in-Ok-strengthen.ensures.strengthened ∙ c.in-Ok.ensures.admitted in
-    IsCipherCircuit-made c.args.size c.in-Ok-strengthen.strong (made ∙ c.in_ok-circuit.ensures) (subst IsCircuit (sym made) c.values-values.ensures.circuit)
+pub returns-clause-circuit : goal.returns-clause-circuit
+returns-clause-circuit g c =
+    IfOk-same c.in_ok-circuit.circuit _ c.strong_circuit.result c.strong_circuit.ensures.same
+    (IsCipherCircuit-made c.args.size c.in_ok-circuit.circuit c.in_ok-circuit.ensures c.values-values.ensures.circuit)

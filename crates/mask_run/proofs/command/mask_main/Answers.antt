@@ -1,8 +1,9 @@
 use Rattle.std.proofs.Common.{ap, subst, sym, refl}
 use Rattle.mask_words.specs.declared.table.Job.{Job}
 use Rattle.mask_status.specs.declared.status.Status.TheVariants.{BadWords}
+use Rattle.mask_inspect.specs.Ends.{is_read_fault, is_tape_fault, is_write_fault}
 use Rattle.mask_run.specs.Outside.{LeavesTape, LeavesWatch, TellsNothing}
-use Rattle.mask_run.proofs.Promises.{EndsOn-told, nothing_left, same-idle, steps-bound, answers, complete}
+use Rattle.mask_run.proofs.Promises.{EndsOn-told, nothing_left, same-idle, steps-bound, answers, complete, raised}
 use Rattle.mask_run.proofs.command.mask_main.Goals as goal
 
 -- WORDS THAT ARE NO JOB
@@ -48,8 +49,10 @@ returns-clause-answers g c job text due is told =
 
 pub returns-clause-complete : goal.returns-clause-complete
 returns-clause-complete g c job text is told can no_read no_tape no_write =
-    complete c.checks_decide.ensures.none job c.args.words.now _ text _ can (λ e. no_read (c.run_job.ensures.read_fault e))
-    (λ e. no_tape (c.run_job.ensures.tape_fault e)) (λ e. no_write (c.run_job.ensures.write_fault e)) (returns-clause-told g c job text is told)
+    complete c.checks_decide.ensures.none job c.args.words.now _ text _ can
+    (λ e. no_read (raised _ _ _ c.run_job.ensures.input_faults (ap is_read_fault e)))
+    (λ e. no_tape (raised _ _ _ c.run_job.ensures.tape_faults (ap is_tape_fault e)))
+    (λ e. no_write (raised _ _ _ c.run_job.ensures.out_faults (ap is_write_fault e))) (returns-clause-told g c job text is told)
 
 pub returns-clause-idle : goal.returns-clause-idle
 returns-clause-idle g c job text d is told = same-idle job c.args.words.now _ _ _ (returns-clause-ends g c job is) text told c.checks_decide.ensures.text d

@@ -50,8 +50,8 @@ returns-in-Err-Failed-clause-ends g c =
           (record {
             circuit = _;
             ready = ready taken.0 _ _ _ _ prepared;
-            wanted = failed.1;
-            some = failed.2;
+            wanted = failed.0;
+            some = failed.1;
             idle = (c.in-Err-Failed.ensures.left, c.in-Err-Failed.ensures.told);
           });
       costs = CostsAtMost-both _ _ _ taken.0 _ _ read taken.2.1 c.evaluated.ensures.steps;

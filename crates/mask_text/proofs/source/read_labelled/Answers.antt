@@ -9,11 +9,11 @@ pub returns-in_err-text-clause-always : goal.returns-in_err-text-clause-always
 returns-in_err-text-clause-always g c =
     let p = err_from_is_err_and c.from_residual.result c.from_residual.ensures.1 in
     decides (λ (l : LabelledNetlist). l) (λ l bytes. IsText bytes l) (λ l bytes text. (l, text, refl)) c.from_residual.result _
-    (g.S.Source.left c.read_all.new.source) (g.S.Source.faults c.args.source.now) (g.S.Source.faults c.read_all.new.source)
+    (g.S.Source.left c.read_all.new.source)
     (rw (p.1, p.2) c.in_err-text.ensures.answer)
 
 pub returns-clause-always : goal.returns-clause-always
 returns-clause-always g c =
     decides (λ (l : LabelledNetlist). l) (λ l bytes. IsText bytes l) (λ l bytes text. (l, text, refl)) c.read_text.result _
-    (g.S.Source.left c.read_all.new.source) (g.S.Source.faults c.args.source.now) (g.S.Source.faults c.read_all.new.source)
+    (g.S.Source.left c.read_all.new.source)
     (search rules)

@@ -5,7 +5,7 @@ use Rattle.std.proofs.lemmas.Result.{err_from_is_err_and}
 use Rattle.mask_io.specs.Outside.{AppendsProperPrefix}
 use Rattle.mask_circuit.specs.Labels.{NamedGroup, sizes}
 use Rattle.mask_circuit.specs.Text.{Output, Out, output_lines, line_words, spaced, spelling}
-use Rattle.mask_text.proofs.Sends.{Sent, sent-more, sent-stopped, group-named, group-stopped, groups_within, groups-sent, rose_later}
+use Rattle.mask_text.proofs.Sends.{Sent, sent-more, sent-stopped, group-named, group-stopped, groups_within, groups-sent}
 use Rattle.mask_text.proofs.write.write_output_groups.Goals as goal
 
 pub loop-group-preserved : goal.loop-group-preserved
@@ -24,9 +24,6 @@ loop-group-preserved g c =
     let outs = subst (λ (us : List ℕ). Appends (g.O.Sink.written c.write_all.new.sink) (g.O.Sink.written c.write_outs.new.sink)
     (spelling (map Out us))) front c.in_ok-write_outs.ensures.sends in
     let sent = sent-more _ _ _ (spelling (map Out (take c.group-item.result.size c.loop-group.rest.now))) _ _ line outs in
-    let first = c.in_ok-write_all.ensures.never_falls in
-    let later = c.in_ok-write_outs.ensures.never_falls in
-    let before = c.loop-group.invariant.never_falls in
     record {
       sent = subst (λ (us : List ℕ). Sent (g.O.Sink.written c.args.sink.now) (g.O.Sink.written c.write_outs.new.sink)
           (spelling (output_lines (drop (c.loop-group.group-index + 1) c.args.groups.now) us))
@@ -34,7 +31,7 @@ loop-group-preserved g c =
       enough = subst (λ (us : List ℕ). sizes (drop (c.loop-group.group-index + 1) c.args.groups.now) ≤ length us) (sym back)
           (groups_within c.args.groups.now c.loop-group.group-index c.group-item.result c.group-item.result c.loop-group-test.true
           c.group-item.is c.loop-group.rest.now c.loop-group.invariant.enough);
-      never_falls = omega arith;
+      steady = omega (arith, c.in_ok-write_outs.ensures.counts, c.in_ok-write_all.ensures.counts, c.loop-group.invariant.steady);
     }
 
 pub returns-in_err-write_all-clause-sends : goal.returns-in_err-write_all-clause-sends
@@ -45,12 +42,9 @@ returns-in_err-write_all-clause-sends g c =
     (c.as_bytes.ensures.value ∙ c.as_str.ensures.value)
     ∙ ap (λ (h : NamedGroup). spaced (line_words (Output h.name h.size)) ++ 10 ∷ []) c.group.view_is in
     let stopped = err_from_is_err_and c.from_residual.result c.from_residual.ensures.1 in
-    rw stopped.1 (
-      rose_later _ _ _ c.loop-group.invariant.never_falls c.in_err-write_all.ensures.rose,
-      group-stopped c.args.groups.now c.loop-group.group-index c.group-item.result c.group-item.result c.loop-group-test.true
-          c.group-item.is _ _ _ c.loop-group.rest.now c.deref.result.now _ piece c.loop-group.invariant.sent
-          c.in_err-write_all.ensures.part,
-    )
+    rw stopped.1 (group-stopped c.args.groups.now c.loop-group.group-index c.group-item.result c.group-item.result c.loop-group-test.true
+    c.group-item.is _ _ _ c.loop-group.rest.now c.deref.result.now _ piece c.loop-group.invariant.sent
+    c.in_err-write_all.ensures.part)
 
 pub returns-in_err-write_outs-clause-sends : goal.returns-in_err-write_outs-clause-sends
 returns-in_err-write_outs-clause-sends g c =
@@ -64,16 +58,11 @@ returns-in_err-write_outs-clause-sends g c =
     let line = group-named c.args.groups.now c.loop-group.group-index c.group-item.result c.group-item.result c.loop-group-test.true
     c.group-item.is _ _ _ c.loop-group.rest.now c.deref.result.now _ piece c.loop-group.invariant.sent c.in_ok-write_all.ensures.whole
     in
-    let first = c.in_ok-write_all.ensures.never_falls in
-    let before = c.loop-group.invariant.never_falls in
     let failed = c.in_err-write_outs.ensures.sends in
     let part = subst (λ (us : List ℕ). AppendsProperPrefix (g.O.Sink.written c.write_all.new.sink) (g.O.Sink.written c.write_outs.new.sink)
-    (spelling (map Out us))) front failed.1 in
+    (spelling (map Out us))) front failed in
     let stopped = err_from_is_err_and c.from_residual-in_err-write_outs.result c.from_residual-in_err-write_outs.ensures.1 in
-    rw stopped.1 (
-      rose_later _ _ _ (omega arith) failed.0,
-      sent-stopped _ _ _ (spelling (map Out (take c.group-item.result.size c.loop-group.rest.now))) _ _ line part,
-    )
+    rw stopped.1 (sent-stopped _ _ _ (spelling (map Out (take c.group-item.result.size c.loop-group.rest.now))) _ _ line part)
 
 pub returns-clause-sends : goal.returns-clause-sends
 returns-clause-sends g c = groups-sent c.args.groups.now c.loop-group.group-index c.loop-group.rest.now _ _ _ (omega arith)

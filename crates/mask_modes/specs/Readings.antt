@@ -1,0 +1,10 @@
+-- Bytes and their readings as bits.
+use Rattle.std.specs.Prelude.{◌≡◌, ℕ, ◌*◌, ◌^◌, ◌<◌, Bool, List, length, All}
+
+abbrev pub AreBytes : List ℕ → Type 0
+AreBytes bytes = All (λ byte. byte < 2 ^ 8) bytes
+
+-- a reading of bytes: eight bits for each, and others for other bytes
+pub record IsReading (reading : List ℕ → List Bool) : Type 0 where
+  pub count : (bytes : List ℕ) → length (reading bytes) ≡ 8 * length bytes
+  pub one_to_one : (bytes other : List ℕ) → AreBytes bytes → AreBytes other → reading bytes ≡ reading other → bytes ≡ other

@@ -1,0 +1,5 @@
+use Rattle.mask_trace.proofs.Showing.{plans_are_private}
+use Rattle.mask_trace.proofs.privacy.plans_are_private.Goals as goal
+
+pub returns : goal.returns
+returns c = plans_are_private
