@@ -1,14 +1,10 @@
 -- The circuits of PRESENT in counter mode.
-use Rattle.std.specs.Prelude.{ℕ, zero, suc, ◌+◌, ◌-◌, ◌*◌, ◌%◌, ◌==◌, Bool, true, false, List, [], ◌∷◌, ◌++◌, length, take, drop, map, fold, slice_index, bit_xor, if◌then◌else◌}
+use Rattle.std.specs.Prelude.{◌+◌, Bool, List, take, drop, bit_xor}
 use Rattle.std.specs.List.{range_with_len}
 use Rattle.mask_bits.specs.Reading.{lowest, number}
-use Rattle.mask_circuit.specs.declared.gates.Gate.{Gate}
-use Rattle.mask_circuit.specs.declared.gates.Gate.TheVariants.{Xor, Not}
 use Rattle.mask_circuit.specs.Netlist.{Netlist, value_count, only_inputs}
 use Rattle.mask_parts.specs.CipherCircuits.{Size}
-use Rattle.mask_parts.specs.Drafts.{with_gates}
 use Rattle.mask_parts.specs.Fences.{with_fence}
-use Rattle.mask_parts.specs.PresentSbox.{sbox_gates, sbox_results, with_sbox}
 use Rattle.mask_tasks.specs.declared.sizes.KeySize.{KeySize}
 use Rattle.mask_tasks.specs.declared.sizes.KeySize.TheVariants.{K80, K128}
 use Rattle.mask_present.specs.Present.{Register, register, present}

@@ -1,6 +1,7 @@
 -- The block cipher PRESENT on whole numbers (ISO/IEC 29192-2; Bogdanov and others, CHES 2007).
 --
--- A block is a number of 64 bits and a key is one of 80 or 128 bits. Bit j of a number weighs 2 ^ j.
+-- A block is a number of 64 bits and a key is one of 80 or 128 bits. Bit j of a number weighs 2 ^ j. The table of the
+-- S-box is `sbox` of `mask_parts/specs/PresentSbox.antt`.
 use Rattle.std.specs.Prelude.{ℕ, zero, suc, ◌+◌, ◌-◌, ◌*◌, ◌/◌, ◌%◌, ◌^◌, ◌==◌, List, [], ◌∷◌, sum_by, fold, bit_xor, if◌then◌else◌}
 use Rattle.std.specs.List.{range_with_len}
 use Rattle.std.specs.Int.{bit_at}

@@ -2,19 +2,15 @@
 --
 -- A value is named by its number. A register and a block are lists of values, bit 0 first. Each layer appends its gates to
 -- a draft and says which values stand for the register and the block afterwards.
-use Rattle.std.specs.Prelude.{ℕ, zero, suc, ◌+◌, ◌-◌, ◌*◌, ◌%◌, ◌==◌, Bool, true, false, List, [], ◌∷◌, ◌++◌, length, take, drop, map, fold, slice_index, bit_xor, if◌then◌else◌}
+use Rattle.std.specs.Prelude.{ℕ, zero, suc, ◌+◌, ◌-◌, ◌*◌, ◌%◌, ◌==◌, Bool, true, false, List, [], ◌∷◌, ◌++◌, length, take, drop, map, fold, slice_index, if◌then◌else◌}
 use Rattle.std.specs.List.{range_with_len}
-use Rattle.mask_bits.specs.Reading.{lowest, number}
+use Rattle.mask_bits.specs.Reading.{lowest}
 use Rattle.mask_circuit.specs.declared.gates.Gate.{Gate}
 use Rattle.mask_circuit.specs.declared.gates.Gate.TheVariants.{Xor, Not}
-use Rattle.mask_circuit.specs.Netlist.{Netlist, value_count, only_inputs}
-use Rattle.mask_parts.specs.CipherCircuits.{Size}
+use Rattle.mask_circuit.specs.Netlist.{Netlist, value_count}
 use Rattle.mask_parts.specs.Drafts.{with_gates}
-use Rattle.mask_parts.specs.Fences.{with_fence}
 use Rattle.mask_parts.specs.PresentSbox.{sbox_gates, sbox_results, with_sbox}
-use Rattle.mask_tasks.specs.declared.sizes.KeySize.{KeySize}
-use Rattle.mask_tasks.specs.declared.sizes.KeySize.TheVariants.{K80, K128}
-use Rattle.mask_present.specs.Present.{Register, register, present}
+use Rattle.mask_present.specs.Present.{Register}
 
 -- a draft, and the values that stand for the key register and for the block
 pub record Stage : Type 0 where

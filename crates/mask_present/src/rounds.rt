@@ -44,7 +44,6 @@ fn block_round(
 {
     let keyed = add_key(b, size, key, block)?;
     let substituted = substituted(b, &keyed)?;
-    let _values = b.values();
     Ok(moved(&substituted))
 }
 

@@ -1,4 +1,4 @@
-use Rattle.std.proofs.Common.{◌≡◌, ℕ, ◌<◌, arith}
+use Rattle.std.proofs.Common.{ℕ, ◌<◌, arith}
 use Rattle.std.proofs.lemmas.List.Elements.{All-replicate}
 use Rattle.mask_circuit.specs.Netlist.{value_count}
 use Rattle.mask_present.proofs.tests.lays_rounds_on_one_value.Goals as goal
