@@ -1,2 +1,4 @@
 mod Counted
+mod Evaluations
+mod Lanes
 mod Turned

@@ -1,6 +1,4 @@
-use Rattle.std.proofs.Common.{◌≡◌, ◌∙◌, ◌*◌, length, take, ap, sym, arith}
-use Rattle.std.proofs.lemmas.List.{take_all}
-use Rattle.mask_bits.specs.Reading.{low}
+use Rattle.std.proofs.Common.{◌∙◌, length, ap, arith}
 use Rattle.mask_bits.specs.Lanes.{lane}
 use Rattle.mask_modes.specs.Steps.{block_at}
 use Rattle.mask_plan.specs.Blocks.{ordered}

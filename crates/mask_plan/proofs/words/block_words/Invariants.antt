@@ -1,4 +1,4 @@
-use Rattle.std.proofs.Common.{◌≡◌, ℕ, ◌*◌, ◌<◌, length, take}
+use Rattle.std.proofs.Common.{◌≡◌, ℕ, ◌*◌, ◌<◌, take}
 use Rattle.mask_bits.specs.Reading.{low}
 use Rattle.mask_bits.specs.Lanes.{lane}
 use Rattle.mask_modes.specs.Steps.{block_at}

@@ -1,4 +1,4 @@
-use Rattle.std.proofs.Common.{◌+◌, ◌*◌, ◌^◌, ◌<◌, ap, sym, ◌∙◌, arith}
+use Rattle.std.proofs.Common.{◌∙◌, arith}
 use Rattle.mask_modes.specs.Steps.{block_at}
 use Rattle.mask_plan.specs.Blocks.{ordered}
 use Rattle.mask_plan.proofs.Turned.{length-ordered, row_step, row_done}
