@@ -126,3 +126,7 @@ few_blocks b n is le =
     let some : 0 < b = elim is [ inl e ↦ omega arith | inr e ↦ omega arith ] in
     let grows = block_count_grows b n (64 * b) some le in
     let whole = block_count-whole b 64 some in omega arith
+
+-- a run whose key has these shares
+abbrev pub with_shares : Between → List BitShares → Between
+with_shares run shares = record run { shares = shares }

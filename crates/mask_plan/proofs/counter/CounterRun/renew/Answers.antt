@@ -61,6 +61,7 @@ returns-clause-ran g c =
       iv = c.self.inside.iv;
       shares = map (lane 0) (take c.self.inside.key c.self.inside.inputs.items);
       done = c.self.inside.done;
+      outputs = c.self.inside.frame.outputs;
     } in
     let e : EvaluatesInLanes c.self.inside.refresh g.row.N 1 (take c.self.inside.key c.self.inside.inputs.items) [] []
         c.args.tape.now c.evaluate.new.tape (g.E.Entropy.left c.args.entropy.now) (g.E.Entropy.left c.evaluate.new.entropy)
