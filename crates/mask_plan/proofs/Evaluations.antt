@@ -9,7 +9,7 @@ use Rattle.mask_circuit.specs.Wires.{each, on_first}
 use Rattle.mask_circuit.specs.Sharing.{all_shared}
 use Rattle.mask_eval.specs.Watching.{Told, Awaited, StaysReadyBehind}
 use Rattle.mask_eval.specs.Evaluated.{inputs_of, EvaluatesInLanes}
-use Rattle.mask_trace.specs.Steps.{Public, Plain, Key, Registers, Step, AsKey, kept, sharing_bits}
+use Rattle.mask_trace.specs.Steps.{Public, Plain, Key, Step, sharing_bits}
 use Rattle.mask_trace.specs.Traces.{BitShares, input_shares}
 use Rattle.mask_trace.specs.Drawing.{Ran}
 use Rattle.mask_trace.specs.Lanes.{RanInLanes}
@@ -29,7 +29,6 @@ order-is (suc N) = omega arith
 
 module _ (N : ℕ) (run : Between) (before after : List Bool) (left left' : Option (List ℕ)) (told told' : Option (List Told)) (outputs : List (List ℕ))
     (key : List (List ℕ)) (same : (l : ℕ) → l < 64 → map (lane l) key ≡ run.shares) (size : length run.shares ≡ run.key) (small : length before < 8) where
-
   -- the shares of the key are the inputs of a refresh
   refresh_inputs : (l : ℕ) (coins : List ℕ) → l < 64 →
       map (lane l) (inputs_of N key [] [] coins) ≡ input_shares N (have run) (refresh_step (mode run)).inputs (lane l coins)
@@ -48,7 +47,7 @@ module _ (N : ℕ) (run : Between) (before after : List Bool) (left left' : Opti
       = ap (λ (l : List BitShares). map (lane 0) outputs ++ l) (drop_all (length (map (lane 0) outputs)) run.shares (omega arith))
       ∙ append-nil (map (lane 0) outputs) ∙ sym is in
       let lanes : RanInLanes N ((N - 1) * 0) 1 run.refresh (have run) (λ l. refresh_step (mode run)) e.coins (inputs_of N key [] [] e.coins) outputs
-          (stand before left told) (stand after left' told')
+      (stand before left told) (stand after left' told')
       = record {
         few = omega arith;
         circuit = λ l lt. refl;
@@ -61,14 +60,13 @@ module _ (N : ℕ) (run : Between) (before after : List Bool) (left left' : Opti
       } in
       let P : List BitShares → Type 0 = λ key. Ran N (have run) (refresh_step (mode run) ∷ []) (record { key = key; state = [] }) (stand before left told) (stand after left' told') in
       subst P whole (lane_is_step N ((N - 1) * 0) run.refresh (have run) (λ l. refresh_step (mode run)) e.coins (inputs_of N key [] [] e.coins) outputs
-          (stand before left told) (stand after left' told') lanes)
+      (stand before left told) (stand after left' told') lanes)
 
   module _ (piece counters blocks : List ℕ) (inputs : List (List ℕ))
       (inputs_is : inputs ≡ key ++ map (λ w. each (on_first words w) N) counters)
       (counters_are : (l : ℕ) → l < 64 → lane l counters ≡ reading run.order (counter run.block run.iv (run.done + l)))
       (blocks_are : (l : ℕ) → l < 64 → lane l blocks ≡ reading run.order (block_at run.block piece l))
       (few : block_count run.block (length piece) ≤ 64) where
-
     abbrev step : ℕ → Step
     step l = block_step (mode run) (run.done + l) (block_at run.block piece l)
 
@@ -94,7 +92,7 @@ module _ (N : ℕ) (run : Between) (before after : List Bool) (left left' : Opti
     encrypted e =
         let count = block_count run.block (length piece) in
         let lanes : RanInLanes N ((N - 1) * length blocks) count run.circuit (have run) (λ l. step l) e.coins (inputs_of N inputs blocks [] e.coins) outputs
-            (stand before left told) (stand after left' told')
+        (stand before left told) (stand after left' told')
         = record {
           few = few;
           circuit = λ l lt. refl;
@@ -106,7 +104,7 @@ module _ (N : ℕ) (run : Between) (before after : List Bool) (left left' : Opti
           tells = e.tells;
         } in
         let both = lanes_are_steps N ((N - 1) * length blocks) count run.circuit (have run) (λ l. step l) e.coins (inputs_of N inputs blocks [] e.coins) outputs
-            (stand before left told) (stand after left' told') lanes (λ l lt. refl) in
+        (stand before left told) (stand after left' told') lanes (λ l lt. refl) in
         record {
           ran = both.0;
           sharing = (N - 1) * length blocks;

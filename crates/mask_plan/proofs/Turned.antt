@@ -1,5 +1,5 @@
 -- Blocks as rows of bits, and the rows turned.
-use Rattle.std.proofs.Common.{◌≡◌, ℕ, suc, ◌+◌, ◌-◌, ◌*◌, ◌^◌, ◌<◌, ◌≤◌, Bool, false, List, ◌∷◌, ◌++◌, length, take, drop, reverse, get_or, refl, sym, ap, ap₂, ◌∙◌, arith, length-drop}
+use Rattle.std.proofs.Common.{◌≡◌, ℕ, suc, ◌+◌, ◌-◌, ◌*◌, ◌^◌, ◌<◌, ◌≤◌, Bool, false, List, ◌∷◌, ◌++◌, length, take, drop, get_or, refl, sym, ap, ap₂, ◌∙◌, arith, length-drop}
 use Rattle.std.proofs.Math.Seq.{take-add}
 use Rattle.std.proofs.lemmas.List.{ext_get_or, get_or-map, length-map, length-reverse, length-take, length-take-le, drop_more, map-append, take_all}
 use borrow.Rule.Slice.PartMut.{put_mid}
@@ -28,8 +28,7 @@ reading_is HighFirst bytes = refl
 pub next_byte : (xs : List ℕ) (at k byte : ℕ) → at < length xs → byte ≡ get_or xs at 0 → byte < 256 → k ≤ 7 →
     (number (low (take k (drop (at + 1) xs))) * 256 + byte ≡ number (low (take (suc k) (drop at xs)))) × (number (low (take (suc k) (drop at xs))) < 2 ^ 64)
 next_byte xs at k byte within is small few =
-    let front : drop at xs ≡ byte ∷ drop (at + 1) xs = drop_more xs at 0 within ∙ ap (λ (x : ℕ). x ∷ drop (at + 1) xs) (sym is) in
-    (
+    let front : drop at xs ≡ byte ∷ drop (at + 1) xs = drop_more xs at 0 within ∙ ap (λ (x : ℕ). x ∷ drop (at + 1) xs) (sym is) in (
       sym (number-low_cons byte (take k (drop (at + 1) xs)) small) ∙ ap (λ (l : List ℕ). number (low (take (suc k) l))) (sym front),
       eight_bytes (take (suc k) (drop at xs)) (omega (arith, length-take (suc k) (drop at xs))),
     )

@@ -6,12 +6,12 @@ use Rattle.mask_circuit.specs.Netlist.{Netlist}
 use Rattle.mask_circuit.specs.Expansion.{draws}
 use Rattle.mask_eval.specs.Frames.{Held, IsFrameOf}
 use Rattle.mask_eval.specs.Watching.{Told}
-use Rattle.mask_trace.specs.Steps.{Registers, Step}
+use Rattle.mask_trace.specs.Steps.{Registers}
 use Rattle.mask_trace.specs.Lanes.{RanInLanes}
 use Rattle.mask_trace.specs.Traces.{BitShares, output_shares}
-use Rattle.mask_trace.specs.Drawing.{Stand, Ran, RanPart}
+use Rattle.mask_trace.specs.Drawing.{Stand, Ran}
 use Rattle.mask_modes.specs.CounterMode.{block_count}
-use Rattle.mask_modes.specs.Steps.{Mode, ahead_of, block_at, block_step, block_steps}
+use Rattle.mask_modes.specs.Steps.{Mode, block_at, block_step, block_steps}
 use Rattle.mask_plan.specs.Blocks.{IsBlockLength, reading}
 use Rattle.mask_plan.specs.declared.words.BitOrder.{BitOrder}
 
@@ -68,13 +68,3 @@ pub record Encrypted (N : ℕ) (m : Mode) (held : Registers BitShares) (i : ℕ)
   pub lanes : RanInLanes N sharing (block_count m.block (length part)) m.circuit held (λ l. block_step m (i + l) (block_at m.block part l)) coins inputs outputs a b
   pub made : (l : ℕ) → l < block_count m.block (length part) → map (lane l) outputs
       ≡ output_shares N held (block_step m (i + l) (block_at m.block part l)) (drop (l * (sharing + draws m.circuit N)) (a.kept ++ low lanes.drawn.fresh))
-
--- A batch was encrypted, behind fresh shares of the key where they are due.
-pub record BatchRan (N : ℕ) (m : Mode) (held now : Registers BitShares) (i : ℕ) (part : List ℕ) (outputs : List (List ℕ)) (a b : Stand) : Type 0 where
-  pub renewed : Stand
-  pub ahead : Ran N held (ahead_of m i) now a renewed
-  pub encrypted : Encrypted N m now i part outputs renewed b
-
--- Part of these steps was evaluated, and nothing more.
-abbrev pub Stopped : ℕ → Registers BitShares → List Step → Stand → Stand → Type 0
-Stopped N held steps a b = (count : ℕ) × RanPart N held steps count a b

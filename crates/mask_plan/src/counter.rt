@@ -210,7 +210,12 @@ impl<const N: usize> CounterRun<N> {
         ensures counts { E.faults entropy.new ≡ faults_after (is_err result) (E.faults entropy.old) }
     {
         let lanes = (piece.len() + (self.block - 1)) / self.block;
-        block_words(&counter_bytes(self.block, self.iv, self.done), self.block, self.order, &mut self.counters);
+        block_words(
+            &counter_bytes(self.block, self.iv, self.done),
+            self.block,
+            self.order,
+            &mut self.counters,
+        );
         block_words(piece, self.block, self.order, &mut self.blocks);
         put_public(&self.counters, self.key, &mut self.inputs);
         match evaluate(
@@ -233,8 +238,9 @@ impl<const N: usize> CounterRun<N> {
         Ok(())
     }
 
-    // A batch with nothing ahead of it.
-    fn plain_batch<E: Entropy, W: Watch, L: Ledger>(
+    /// Encrypts up to 64 blocks, the last of which may be short, with nothing ahead of them. All memory is taken before the
+    /// tape is asked.
+    pub fn plain_batch<E: Entropy, W: Watch, L: Ledger>(
         &mut self,
         alloc: Global,
         piece: &[u8],

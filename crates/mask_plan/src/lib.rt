@@ -7,3 +7,6 @@ mod words;
 
 pub use counter::CounterRun;
 pub use words::{BitOrder, block_words, counter_bytes};
+
+#[cfg(test)]
+mod tests;

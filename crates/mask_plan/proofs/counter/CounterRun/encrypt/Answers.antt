@@ -66,8 +66,8 @@ returns-clause-encrypted g c =
       outputs = c.self.inside.frame.outputs;
     } in
     let P : Between → Type 0 = λ r. Encrypted g.row.N (mode r) (have r) r.done c.args.piece.now c.evaluate.new.frame.outputs
-        (stand c.args.tape.now (g.E.Entropy.left c.args.entropy.now) (g.W.Watch.told c.args.watch.now))
-        (stand c.evaluate.new.tape (g.E.Entropy.left c.evaluate.new.entropy) (g.W.Watch.told c.evaluate.new.watch)) in
+    (stand c.args.tape.now (g.E.Entropy.left c.args.entropy.now) (g.W.Watch.told c.args.watch.now))
+    (stand c.evaluate.new.tape (g.E.Entropy.left c.evaluate.new.entropy) (g.W.Watch.told c.evaluate.new.watch)) in
     let key : ℕ = c.self.inside.key in
     let within : key ≤ length c.self.inside.inputs.items = let many = c.self.invariant.many_inputs in omega arith in
     let long : length c.put_public.new.inputs ≡ c.self.inside.inputs.len = omega arith in
@@ -82,17 +82,17 @@ returns-clause-encrypted g c =
     = c.deref-3.ensures.value ∙ with_items_is c.self.inside.blocks c.block_words-2.new.words long_blocks in
     let few : length c.args.piece.now ≤ 64 * c.self.inside.block = subst (λ (r : Between). length c.args.piece.now ≤ 64 * r.block) (sym c.self.view_is) c.requires.few in
     let e : EvaluatesInLanes c.self.inside.circuit g.row.N (block_count c.self.inside.block (length c.args.piece.now)) c.deref-2.result.now c.deref-3.result.now []
-        c.args.tape.now c.evaluate.new.tape (g.E.Entropy.left c.args.entropy.now) (g.E.Entropy.left c.evaluate.new.entropy)
-        (g.W.Watch.told c.args.watch.now) (g.W.Watch.told c.evaluate.new.watch) c.evaluate.new.frame.outputs
+    c.args.tape.now c.evaluate.new.tape (g.E.Entropy.left c.args.entropy.now) (g.E.Entropy.left c.evaluate.new.entropy)
+    (g.W.Watch.told c.args.watch.now) (g.W.Watch.told c.evaluate.new.watch) c.evaluate.new.frame.outputs
     = subst (λ (net : Netlist). EvaluatesInLanes net g.row.N (block_count c.self.inside.block (length c.args.piece.now)) c.deref-2.result.now c.deref-3.result.now []
-        c.args.tape.now c.evaluate.new.tape (g.E.Entropy.left c.args.entropy.now) (g.E.Entropy.left c.evaluate.new.entropy)
-        (g.W.Watch.told c.args.watch.now) (g.W.Watch.told c.evaluate.new.watch) c.evaluate.new.frame.outputs) c.admitted.ensures.same c.in-Ok.ensures.evaluates in
+    c.args.tape.now c.evaluate.new.tape (g.E.Entropy.left c.args.entropy.now) (g.E.Entropy.left c.evaluate.new.entropy)
+    (g.W.Watch.told c.args.watch.now) (g.W.Watch.told c.evaluate.new.watch) c.evaluate.new.frame.outputs) c.admitted.ensures.same c.in-Ok.ensures.evaluates in
     subst P c.self.view_is
-      (encrypted g.row.N run c.args.tape.now c.evaluate.new.tape (g.E.Entropy.left c.args.entropy.now) (g.E.Entropy.left c.evaluate.new.entropy)
-          (g.W.Watch.told c.args.watch.now) (g.W.Watch.told c.evaluate.new.watch) c.evaluate.new.frame.outputs
-          (take key c.self.inside.inputs.items) c.self.invariant.same
-          (length-map (take key c.self.inside.inputs.items) (lane 0) ∙ length-take-le key c.self.inside.inputs.items within) c.requires.kept
-          c.args.piece.now c.deref.result.now c.deref-3.result.now c.deref-2.result.now inputs_is
-          (λ l lt. ap (lane l) counters_is ∙ c.block_words.ensures l lt ∙ ap (reading c.self.inside.order) (c.counter_bytes.ensures l lt))
-          (λ l lt. ap (lane l) blocks_is ∙ c.block_words-2.ensures l lt)
-          (few_blocks c.self.inside.block (length c.args.piece.now) c.self.invariant.is_block few) e)
+    (encrypted g.row.N run c.args.tape.now c.evaluate.new.tape (g.E.Entropy.left c.args.entropy.now) (g.E.Entropy.left c.evaluate.new.entropy)
+    (g.W.Watch.told c.args.watch.now) (g.W.Watch.told c.evaluate.new.watch) c.evaluate.new.frame.outputs
+    (take key c.self.inside.inputs.items) c.self.invariant.same
+    (length-map (take key c.self.inside.inputs.items) (lane 0) ∙ length-take-le key c.self.inside.inputs.items within) c.requires.kept
+    c.args.piece.now c.deref.result.now c.deref-3.result.now c.deref-2.result.now inputs_is
+    (λ l lt. ap (lane l) counters_is ∙ c.block_words.ensures l lt ∙ ap (reading c.self.inside.order) (c.counter_bytes.ensures l lt))
+    (λ l lt. ap (lane l) blocks_is ∙ c.block_words-2.ensures l lt)
+    (few_blocks c.self.inside.block (length c.args.piece.now) c.self.invariant.is_block few) e)

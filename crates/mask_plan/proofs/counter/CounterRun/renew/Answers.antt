@@ -1,4 +1,4 @@
-use Rattle.std.proofs.Common.{◌≡◌, ℕ, ◌+◌, ◌-◌, ◌*◌, ◌<◌, ◌≤◌, List, [], ◌∷◌, ◌++◌, length, map, take, sym, ap, ap₂, subst, ◌∙◌, arith}
+use Rattle.std.proofs.Common.{◌≡◌, ℕ, ◌≤◌, List, [], ◌∷◌, length, map, take, sym, ap, ap₂, subst, ◌∙◌, arith}
 use Rattle.std.specs.List.{length_refill}
 use Rattle.std.specs.Vec.{with_items}
 use Rattle.std.proofs.lemmas.List.{with_items_is, length-map, length-take-le}
@@ -64,20 +64,20 @@ returns-clause-ran g c =
       outputs = c.self.inside.frame.outputs;
     } in
     let e : EvaluatesInLanes c.self.inside.refresh g.row.N 1 (take c.self.inside.key c.self.inside.inputs.items) [] []
-        c.args.tape.now c.evaluate.new.tape (g.E.Entropy.left c.args.entropy.now) (g.E.Entropy.left c.evaluate.new.entropy)
-        (g.W.Watch.told c.args.watch.now) (g.W.Watch.told c.evaluate.new.watch) c.evaluate.new.frame.outputs
+    c.args.tape.now c.evaluate.new.tape (g.E.Entropy.left c.args.entropy.now) (g.E.Entropy.left c.evaluate.new.entropy)
+    (g.W.Watch.told c.args.watch.now) (g.W.Watch.told c.evaluate.new.watch) c.evaluate.new.frame.outputs
     = subst (λ (l : List (List ℕ)). EvaluatesInLanes c.self.inside.refresh g.row.N 1 (take c.self.inside.key l) [] []
-        c.args.tape.now c.evaluate.new.tape (g.E.Entropy.left c.args.entropy.now) (g.E.Entropy.left c.evaluate.new.entropy)
-        (g.W.Watch.told c.args.watch.now) (g.W.Watch.told c.evaluate.new.watch) c.evaluate.new.frame.outputs) c.deref.ensures.value
-      (subst (λ (net : Netlist). EvaluatesInLanes net g.row.N 1 (take c.self.inside.key c.deref.result.now) [] []
-        c.args.tape.now c.evaluate.new.tape (g.E.Entropy.left c.args.entropy.now) (g.E.Entropy.left c.evaluate.new.entropy)
-        (g.W.Watch.told c.args.watch.now) (g.W.Watch.told c.evaluate.new.watch) c.evaluate.new.frame.outputs) c.admitted.ensures.same c.in-Ok.ensures.evaluates) in
+    c.args.tape.now c.evaluate.new.tape (g.E.Entropy.left c.args.entropy.now) (g.E.Entropy.left c.evaluate.new.entropy)
+    (g.W.Watch.told c.args.watch.now) (g.W.Watch.told c.evaluate.new.watch) c.evaluate.new.frame.outputs) c.deref.ensures.value
+    (subst (λ (net : Netlist). EvaluatesInLanes net g.row.N 1 (take c.self.inside.key c.deref.result.now) [] []
+    c.args.tape.now c.evaluate.new.tape (g.E.Entropy.left c.args.entropy.now) (g.E.Entropy.left c.evaluate.new.entropy)
+    (g.W.Watch.told c.args.watch.now) (g.W.Watch.told c.evaluate.new.watch) c.evaluate.new.frame.outputs) c.admitted.ensures.same c.in-Ok.ensures.evaluates) in
     subst (λ (r : Between). Ran g.row.N (have r) (refresh_step (mode r) ∷ [])
-        (record { key = map (lane 0) (take key (with_items c.self.inside.inputs c.put_in_all_lanes.new.inputs).items); state = [] })
-        (stand c.args.tape.now (g.E.Entropy.left c.args.entropy.now) (g.W.Watch.told c.args.watch.now))
-        (stand c.evaluate.new.tape (g.E.Entropy.left c.evaluate.new.entropy) (g.W.Watch.told c.evaluate.new.watch))) c.self.view_is
+    (record { key = map (lane 0) (take key (with_items c.self.inside.inputs c.put_in_all_lanes.new.inputs).items); state = [] })
+    (stand c.args.tape.now (g.E.Entropy.left c.args.entropy.now) (g.W.Watch.told c.args.watch.now))
+    (stand c.evaluate.new.tape (g.E.Entropy.left c.evaluate.new.entropy) (g.W.Watch.told c.evaluate.new.watch))) c.self.view_is
     (refreshed g.row.N run c.args.tape.now c.evaluate.new.tape (g.E.Entropy.left c.args.entropy.now) (g.E.Entropy.left c.evaluate.new.entropy)
-        (g.W.Watch.told c.args.watch.now) (g.W.Watch.told c.evaluate.new.watch) c.evaluate.new.frame.outputs
-        (take key c.self.inside.inputs.items) c.self.invariant.same
-        (length-map (take key c.self.inside.inputs.items) (lane 0) ∙ length-take-le key c.self.inside.inputs.items within) c.requires.kept
-        (map (lane 0) (take key (with_items c.self.inside.inputs c.put_in_all_lanes.new.inputs).items)) now_is many e)
+    (g.W.Watch.told c.args.watch.now) (g.W.Watch.told c.evaluate.new.watch) c.evaluate.new.frame.outputs
+    (take key c.self.inside.inputs.items) c.self.invariant.same
+    (length-map (take key c.self.inside.inputs.items) (lane 0) ∙ length-take-le key c.self.inside.inputs.items within) c.requires.kept
+    (map (lane 0) (take key (with_items c.self.inside.inputs c.put_in_all_lanes.new.inputs).items)) now_is many e)
