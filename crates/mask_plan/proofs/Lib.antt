@@ -1,0 +1,4 @@
+mod Counted
+mod Evaluations
+mod Lanes
+mod Turned
