@@ -1,4 +1,4 @@
-//! Sessions: a message that is encrypted on shares piece by piece.
+//! A run in counter mode between its batches: blocks side by side in lanes, and fresh shares of the key.
 #![tactic(auto)]
 
 mod counter;
