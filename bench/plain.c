@@ -3,31 +3,13 @@
  *
  * It prints a line for each: `product SHARES NANOS CHECKSUM` or `evaluation SHARES NANOS CHECKSUM`. The checksum is of the shares
  * that come out, so that the two programs can be compared. */
-#include <stdint.h>
 #include <stdio.h>
-#include <stdlib.h>
 #include <time.h>
-
-typedef uint64_t word;
-enum kind { XOR, REF, AND };
-struct gate { enum kind kind; uint32_t left, right; };
+#include "plain-words.h"
 
 /* The same numbers stand in program/src/costs.rt.in. */
 enum { PRODUCTS = 1000, ROUNDS = 8000, SAMPLES = 200, LANES = 64 };
 static const word LEFT = 0x0123456789abcdef, RIGHT = 0xfedcba9876543210;
-
-/* No compiler may move an operation, or merge it with another, across this. */
-#define KEEP(x) __asm__ volatile("" : "+r"(x))
-
-static inline word sum(word a, word b) { word c = a ^ b; KEEP(c); return c; }
-static inline word product(word a, word b) { word c = a & b; KEEP(c); return c; }
-static inline word fresh(const word **coins) { word c = *(*coins)++; KEEP(c); return c; }
-
-static void *room(size_t bytes) {
-  void *at = malloc(bytes);
-  if (!at) exit(2);
-  return at;
-}
 
 /* A tape that looks random, by Knuth's multiplier. */
 static word tape_byte(size_t place) { return place * 2654435761 >> 16 & 0xff; }
@@ -55,7 +37,7 @@ static word checksum(const word *shares, int count) {
   return sum;
 }
 
-static struct gate *chain(void) {
+static struct circuit rounds(void) {
   struct gate *gates = room(3 * ROUNDS * sizeof *gates);
   uint32_t latest_sum = 0, latest_product = 1, next = 2;
   for (int round = 0; round < ROUNDS; round++, next += 3) {
@@ -64,18 +46,11 @@ static struct gate *chain(void) {
     gates[3 * round + 2] = (struct gate){AND, latest_sum, next + 1};
     latest_sum = next, latest_product = next + 2;
   }
-  return gates;
+  return (struct circuit){.inputs = 2, .count = 3 * ROUNDS, .gates = gates};
 }
 
-#define N 2
-#include "plain-gadgets.h"
-#undef N
-#define N 4
-#include "plain-gadgets.h"
-#undef N
-#define N 8
-#include "plain-gadgets.h"
-#undef N
+#define EACH "plain-times.h"
+#include "plain-each.h"
 
 int main(void) {
   time_products_2(), time_evaluations_2();

@@ -1,7 +1,11 @@
 -- Bits and bytes: the two readings, and the number that bits or bytes stand for.
-use Rattle.std.specs.Prelude.{◌≡◌, ℕ, zero, suc, ◌+◌, ◌*◌, ◌/◌, ◌<◌, Bool, false, nat_eq, List, [], ◌∷◌, ◌++◌, reverse, fold, replicate, if◌then◌else◌}
+use Rattle.std.specs.Prelude.{◌≡◌, ℕ, zero, suc, ◌+◌, ◌*◌, ◌/◌, ◌^◌, ◌<◌, Bool, false, nat_eq, List, [], ◌∷◌, ◌++◌, All, reverse, fold, replicate, if◌then◌else◌}
 use Rattle.std.specs.List.{flat_map}
 use Rattle.std.specs.Int.{bit_at}
+
+-- a byte is a number of eight bits
+abbrev pub AreBytes : List ℕ → Type 0
+AreBytes bytes = All (λ byte. byte < 2 ^ 8) bytes
 
 -- the bit of weight 2 ^ place of a word
 abbrev pub bit : ℕ → ℕ → Bool

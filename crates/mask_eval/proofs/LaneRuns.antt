@@ -1,8 +1,8 @@
 -- A run on words is, in each lane, the run on the lane's bits; and what a frame holds after a run are its outputs.
-use Rattle.std.proofs.Common.{◌≡◌, ℕ, suc, ◌<◌, ◌≤◌, Bool, true, false, cond, ◌==◌, List, [], ◌∷◌, length, map, take, drop, get_or, fold, All, refl, ap, ap₂, sym, subst, ◌∙◌, arith}
+use Rattle.std.proofs.Common.{◌≡◌, ℕ, suc, ◌<◌, ◌≤◌, Bool, true, false, cond, ◌==◌, List, [], ◌∷◌, length, map, take, drop, get_or, All, refl, ap, ap₂, sym, subst, ◌∙◌, arith}
 use Rattle.std.proofs.Math.Path.{fun_ext}
 use Rattle.std.proofs.lemmas.Simd.{map-map}
-use Rattle.std.proofs.lemmas.List.{take-map, drop-map, get_or-map, get_or-take, ext_get_or, map-id}
+use Rattle.std.proofs.lemmas.List.{take-map, drop-map, get_or-map, get_or-take, map-id}
 use Rattle.mask_bits.specs.Reading.{bit}
 use Rattle.mask_bits.specs.Lanes.{lane}
 use Rattle.mask_circuit.specs.declared.gates.Gate.{Gate}
@@ -14,14 +14,13 @@ use Rattle.mask_circuit.specs.declared.gates.Wire.{Wire}
 use Rattle.mask_circuit.specs.declared.gates.Wire.TheVariants.{Share, Product, Fresh, Left, Right, Partial}
 use Rattle.mask_circuit.specs.Wires.{Shares, each, gate_draws, gate_wire}
 use Rattle.mask_circuit.specs.Expansion.{Carried, shares_of, put, start, run, expand, draws, outs}
-use Rattle.mask_laws.specs.Sharing.{unshared}
+use Rattle.mask_laws.specs.Sharing.{unshared, SameShares}
 use Rattle.mask_laws.proofs.Unmasking.{outputs_unmask}
 use Rattle.mask_shares.specs.Sharing.{listed, all_listed, unmasked}
-use Rattle.mask_shares.proofs.Lists.{length-each, get_or-each, is_each, each-same}
-use Rattle.mask_gadget.proofs.Made.{map-each}
+use Rattle.mask_shares.proofs.Lists.{is_each, each-same, map-each, each-get_or}
 use Rattle.mask_gadget.proofs.Lanes.{Keeps, KeepsUnit, keeps_lane, keeps_unit, gate_wire-keeps, all_listed-keeps, length-lane}
 use Rattle.mask_tape.specs.Drawn.{Drawn, ahead}
-use Rattle.mask_eval.specs.Frames.{Held, IsFrameOf, SameShares, input_values}
+use Rattle.mask_eval.specs.Frames.{Held, IsFrameOf, input_values}
 use Rattle.mask_eval.proofs.Runs.{run-same}
 
 -- LANES
@@ -128,17 +127,8 @@ outputs_of_frame c N frame numbers old new seen copies coins is fits numbers_are
 
 -- PLAIN VALUES
 
--- a list is made by its own elements
-each_get : {A : Type 0} (xs : List A) (d : A) → each (λ i. get_or xs i d) (length xs) ≡ xs
-each_get xs d =
-    ext_get_or d (each (λ i. get_or xs i d) (length xs)) xs (length-each (λ i. get_or xs i d) (length xs))
-    (λ i lt. get_or-each (λ j. get_or xs j d) (length xs) i d (lt_along (length-each (λ i. get_or xs i d) (length xs)) lt))
-  where
-    lt_along : {i m n : ℕ} → m ≡ n → i < m → i < n
-    lt_along e lt = omega arith
-
 each_map : {A B : Type 0} (f : A → B) (xs : List A) (d : A) → each (λ i. f (get_or xs i d)) (length xs) ≡ map f xs
-each_map f xs d = sym (map-each f (λ i. get_or xs i d) (length xs)) ∙ ap (map f) (each_get xs d)
+each_map f xs d = sym (map-each f (λ i. get_or xs i d) (length xs)) ∙ ap (map f) (each-get_or xs d)
 
 -- the bits that the inputs share in a lane
 unshared_in_lane : (l N : ℕ) (values : List (List ℕ)) → All (λ v. length v ≡ N) values →
@@ -146,7 +136,7 @@ unshared_in_lane : (l N : ℕ) (values : List (List ℕ)) → All (λ v. length 
 unshared_in_lane l N values counts = each-same _ _ (length values) at ∙ each_map (λ v. unmasked bits (lane l v)) values []
   where
     of_list : (xs : List Bool) → length xs ≡ N → unmasked bits (each (listed bits xs) N) ≡ unmasked bits xs
-    of_list xs e = ap (unmasked bits) (ap (λ (n : ℕ). each (listed bits xs) n) (sym e) ∙ each_get xs false)
+    of_list xs e = ap (unmasked bits) (ap (λ (n : ℕ). each (listed bits xs) n) (sym e) ∙ each-get_or xs false)
 
     at : (k : ℕ) → k < length values → unshared N (all_listed bits (map (lane l) values) k) ≡ unmasked bits (lane l (get_or values k []))
     at k lt =

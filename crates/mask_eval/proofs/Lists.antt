@@ -1,6 +1,6 @@
 -- Records that are filled lane by lane.
 use Rattle.std.proofs.Common.{◌≡◌, ℕ, zero, suc, ◌+◌, ◌*◌, ◌<◌, ◌≤◌, List, [], ◌∷◌, ◌++◌, length, map, take, drop, get_or, All, refl, ap, ap₂, sym, subst, ◌∙◌, arith, length-append, length-drop, append_assoc}
-use Rattle.std.proofs.lemmas.List.{get_or-drop, ext_get_or, length-map, length_push, map-append, append-nil, take_more, take_all, take_at, drop_all, take-map, drop-map, take-append-le, drop-append-le, length-take}
+use Rattle.std.proofs.lemmas.List.{get_or-drop, ext_get_or, length-map, length_push, map-append, take_more, take_all, take_at, drop_all, take-map, drop-map, take-append-le, drop-append-le, length-take}
 use Rattle.std.specs.List.{concat}
 use Rattle.std.proofs.lemmas.List.Elements.{All-push}
 use Rattle.std.proofs.Math.ListN.{get_or-map}
@@ -8,7 +8,8 @@ use Rattle.std.proofs.Math.Seq.{drop-append_seam}
 use borrow.Rule.Slice.PartMut.{put_mid, same_len_mid}
 use Rattle.mask_bits.specs.Lanes.{lane}
 use Rattle.mask_circuit.specs.Netlist.{Netlist}
-use Rattle.mask_shares.proofs.Lists.{length-each, get_or-each}
+use Rattle.mask_circuit.proofs.Places.{length-each}
+use Rattle.mask_shares.proofs.Lists.{get_or-each, concat-push}
 use Rattle.mask_eval.specs.Watching.{Told, Awaited, awaited, reports}
 use Rattle.mask_eval.specs.Listing.{as_told, IsBlank, AreBlank, AreBlanksFor, Added, filled}
 use Rattle.mask_eval.specs.declared.listing.Seen.{Seen}
@@ -141,11 +142,6 @@ pub blanks_within : (c : Netlist) (order lanes told : ℕ) (ss : List Seen) → 
 blanks_within c order lanes told ss blank some =
     omega (arith, blank.count, length-map (take lanes (drop told ss)) as_told, length-take lanes (drop told ss), length-drop told ss)
 
--- one list more, at the end
-concat_push : (xss : List (List ℕ)) (xs : List ℕ) → concat (xss ++ xs ∷ []) ≡ concat xss ++ xs
-concat_push [] xs = append-nil xs
-concat_push (ys ∷ xss) xs = ap (λ (zs : List ℕ). ys ++ zs) (concat_push xss xs) ∙ sym (append_assoc ys (concat xss) xs)
-
 -- words that hold k lists of n, one after another, hold one list more
 pub concat_more : (n k : ℕ) (values : List (List ℕ)) (value words words' : List ℕ) → k < length values → value ≡ get_or values k [] →
     take (n * k) words ≡ concat (take k values) → take (n * k + n) words' ≡ take (n * k) words ++ value → take (n * (k + 1)) words' ≡ concat (take (k + 1) values)
@@ -154,5 +150,5 @@ concat_more n k values value words words' lt value_is before now =
     rw end
     (now
     ∙ ap₂ (λ (xs ys : List ℕ). xs ++ ys) before value_is
-    ∙ sym (concat_push (take k values) (get_or values k []))
+    ∙ sym (concat-push (take k values) (get_or values k []))
     ∙ ap concat (sym (take_more values k [] lt)))

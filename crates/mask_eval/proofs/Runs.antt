@@ -1,23 +1,21 @@
 -- A run gate by gate: it depends on the shares of earlier values alone, and a frame that holds these goes on with it.
-use Rattle.std.proofs.Common.{◌≡◌, ℕ, zero, suc, ◌+◌, ◌-◌, ◌<◌, ◌⊎◌, inl, inr, cond, ◌==◌, nat_lt, List, [], ◌∷◌, ◌++◌, length, take, drop, set, sum_by, refl, ap, ap₂, sym, ◌∙◌, arith}
+use Rattle.std.proofs.Common.{◌≡◌, ℕ, suc, ◌+◌, ◌-◌, ◌<◌, ◌⊎◌, inl, inr, List, [], ◌∷◌, ◌++◌, length, take, drop, set, sum_by, refl, ap, ap₂, sym, ◌∙◌, arith}
 use Rattle.std.proofs.lemmas.Bool.{eq-eqb, cases_order}
 use Rattle.std.proofs.lemmas.List.{take-take, drop-take, get_or-take, get_or-set_other, set-append_right}
 use Rattle.std.proofs.lemmas.List.Sums.{sum_by-cons}
 use Rattle.std.proofs.lemmas.Grind.{get_or-set_at}
 use Rattle.mask_circuit.specs.declared.gates.Gate.{Gate}
-use Rattle.mask_circuit.specs.declared.gates.Gate.TheVariants.{Zero, One, Xor, Not, And, Ref}
-use Rattle.mask_circuit.specs.Netlist.{OperandsBelow, AreGates}
+use Rattle.mask_circuit.specs.Netlist.{AreGates}
 use Rattle.mask_circuit.specs.Ring.{Ring}
 use Rattle.mask_circuit.specs.declared.gates.Wire.{Wire}
 use Rattle.mask_circuit.specs.declared.gates.Wire.TheVariants.{Share}
-use Rattle.mask_circuit.specs.Wires.{Shares, pairs, fresh_of, cross, fresh_between, gate_draws, gate_wire, gate_out}
+use Rattle.mask_circuit.specs.Wires.{Shares, gate_draws, gate_wire, gate_out}
 use Rattle.mask_circuit.specs.Expansion.{Carried, shares_of, put, start, run}
 use Rattle.mask_laws.proofs.Carrying.{put-same, put-other}
+use Rattle.mask_laws.specs.Sharing.{SameShares}
+use Rattle.mask_laws.proofs.Operands.{share-same}
 use Rattle.mask_shares.specs.Sharing.{listed, all_listed}
-use Rattle.mask_shares.proofs.Lists.{get_or-each}
-use Rattle.mask_gadget.proofs.Made.{map-each}
-use Rattle.mask_gadget.proofs.Rows.{row_sum-same}
-use Rattle.mask_eval.specs.Frames.{SameShares}
+use Rattle.mask_shares.proofs.Lists.{get_or-each, map-each}
 
 -- the element behind the front of a list is written
 pub written_behind : {A : Type 0} (xs front back : List A) (n : ℕ) (x : A) → xs ≡ front ++ back → length front ≡ n → front ++ set back 0 x ≡ set xs n x
@@ -26,40 +24,18 @@ written_behind {A = A} xs front back n x parts count =
     sym (ap (λ (ys : List A). set ys n x) parts ∙ set-append_right front back n n x count (omega arith) ∙ rw none refl)
 
 module _ {X : Type 0} (R : Ring X) where
-  cross-same : (a a' b b' : Shares X) (r : ℕ → ℕ → X) (i j : ℕ) → a i ≡ a' i → a j ≡ a' j → b i ≡ b' i → b j ≡ b' j →
-      cross R a b r i j ≡ cross R a' b' r i j
-  cross-same a a' b b' r i j ai aj bi bj =
-      ap (λ (x : X). cond (nat_lt i j) (r i j) x)
-      (ap₂ R.add (ap (R.add (r j i)) (ap₂ R.mul aj bi)) (ap₂ R.mul ai bj))
-
-  -- an output share of a gate depends on the operands' shares alone
-  pub share-same : (N n : ℕ) (g : Gate) (s s' : ℕ → Shares X) (r : List X) → OperandsBelow n g → SameShares N n s s' →
-      (i : ℕ) → i < N → gate_wire R N g s r (Share i) ≡ gate_wire R N g s' r (Share i)
-  share-same zero n g s s' r below same i lt = absurd (omega arith)
-  share-same (suc N) n Zero s s' r below same i lt = refl
-  share-same (suc N) n One s s' r below same i lt = refl
-  share-same (suc N) n (Xor u v) s s' r below same i lt = ap₂ R.add (same u i below.0 lt) (same v i below.1 lt)
-  share-same (suc N) n (Not u) s s' r below same i lt = ap (λ (x : X). cond (i == 0) (R.add x R.unit) x) (same u i below lt)
-  share-same (suc N) n (And u v) s s' r below same i lt =
-      row_sum-same R _ _ _ _ i N (ap₂ R.mul (same u i below.0 lt) (same v i below.1 lt))
-      (λ j le ne. cross-same (s u) (s' u) (s v) (s' v) (fresh_of R (pairs (suc N)) r) i j (same u i below.0 lt) (same u j below.0 (omega arith))
-      (same v i below.1 lt) (same v j below.1 (omega arith)))
-  share-same (suc N) n (Ref u) s s' r below same i lt =
-      let term : ℕ → X = fresh_between (fresh_of R (pairs (suc N)) r) i in
-      row_sum-same R (s u i) (s' u i) term term i N (same u i below lt) (λ j le ne. refl)
-
-  -- so the values before it are enough
+  -- the values before a gate are enough
   pub earlier-same : (N n : ℕ) (values : List (List X)) → SameShares N n (all_listed R (take n values)) (all_listed R values)
   earlier-same N n values u i lu li = ap (λ (v : List X). listed R v i) (get_or-take n values u [] lu)
 
-  -- so do the shares of all later values
+  -- the same shares before gates give the same ones behind them
   pub run-same : (N : ℕ) (gs : List Gate) (n : ℕ) (t t' : Carried X) (r : List X) → AreGates n gs → SameShares N n (shares_of t) (shares_of t') →
       SameShares N (n + length gs) (shares_of (run R N gs n t r)) (shares_of (run R N gs n t' r))
   run-same N [] n t t' r are same u i lu li = same u i (omega arith) li
   run-same N (g ∷ gs) n t t' r are same u i lu li =
       run-same N gs (suc n) _ _ (drop (gate_draws N g) r) are.1
       (λ v j lv lj. put-same n v (Share j) (gate_wire R N g (shares_of t) (take (gate_draws N g) r)) (gate_wire R N g (shares_of t') (take (gate_draws N g) r)) t t'
-      (λ e. share-same N n g (shares_of t) (shares_of t') (take (gate_draws N g) r) are.0 same j lj)
+      (λ e. share-same R N n g (shares_of t) (shares_of t') (take (gate_draws N g) r) j are.0 same lj)
       (λ ne. same v j (omega arith) lj))
       u i (omega arith) li
 

@@ -1,15 +1,16 @@
 -- Words shared with coins: step by step, lane by lane, and what the shares stand for.
 use Rattle.std.proofs.Common.{◌≡◌, ℕ, suc, ◌+◌, ◌*◌, ◌<◌, Bool, List, [], ◌∷◌, ◌++◌, length, map, take, drop, get_or, set, fold, refl, ap, ap₂, sym, ◌∙◌, arith, length-drop, append_assoc}
-use Rattle.std.proofs.lemmas.List.{take_more, take_more_set, drop-drop, get_or-drop, take-map, drop-map, length-take-le}
+use Rattle.std.specs.List.{concat}
+use Rattle.std.proofs.lemmas.List.{take_more, take_more_set, drop-drop, get_or-drop, take-map, drop-map, length-take-le, map-append}
 use Rattle.mask_circuit.specs.Value.{xor}
 use Rattle.mask_bits.specs.Reading.{bit}
 use Rattle.mask_bits.specs.Lanes.{lane}
 use Rattle.mask_circuit.specs.Ring.{Ring, bits, words}
-use Rattle.mask_laws.proofs.Bits.{xor-false, xor_assoc, xor_self}
-use Rattle.mask_laws.proofs.BitSums.{fold-xor}
+use Rattle.mask_laws.proofs.BitSums.{shared-unmasks}
 use Rattle.mask_shares.specs.Sharing.{shared, all_shared, unmasked}
 use Rattle.mask_gadget.proofs.Lanes.{Keeps, keeps_lane}
 use Rattle.mask_tape.specs.Drawn.{Drawn, ahead}
+use Rattle.mask_eval.specs.Watching.{value_by_value}
 
 -- one coin more
 pub ahead_more : (n : ℕ) (c : Drawn) → c.used + n < length c.words → ahead (n + 1) c ≡ ahead n c ++ get_or c.words (c.used + n) 0 ∷ []
@@ -45,16 +46,12 @@ unmasked_in_lane l shares =
     fold-keeps words bits (bit l) (keeps_lane l) 0 shares
     ∙ ap (λ (b : Bool). fold xor b (lane l shares)) (keeps_lane l).nought
 
--- WHAT SHARES STAND FOR
+-- the words of all values in a lane
+pub lane-concat : (l : ℕ) (values : List (List ℕ)) → lane l (concat values) ≡ value_by_value (map (lane l) values)
+lane-concat l [] = refl
+lane-concat l (value ∷ values) = map-append (bit l) value (concat values) ∙ ap (λ (bs : List Bool). lane l value ++ bs) (lane-concat l values)
 
--- the sum of all shares is the value
-pub shared-unmasks : (b : Bool) (coins : List Bool) → unmasked bits (shared bits b coins) ≡ b
-shared-unmasks b coins =
-    fold-xor (fold xor b coins) coins
-    ∙ ap (λ (x : Bool). xor x (unmasked bits coins)) (fold-xor b coins)
-    ∙ xor_assoc b (unmasked bits coins) (unmasked bits coins)
-    ∙ ap (xor b) (xor_self (unmasked bits coins))
-    ∙ xor-false b
+-- WHAT SHARES STAND FOR
 
 pub all_shared-unmask : (d : ℕ) (bs coins : List Bool) → map (unmasked bits) (all_shared bits d bs coins) ≡ bs
 all_shared-unmask d [] coins = refl
@@ -74,10 +71,6 @@ module _ {X : Type 0} (R : Ring X) where
       (all_shared-push d ys x (drop d coins)
       ∙ ap (λ (cs : List X). all_shared R d ys (drop d coins) ++ shared R x (take d cs) ∷ [])
       (drop-drop (d * length ys) d coins ∙ ap (λ (n : ℕ). drop n coins) more))
-
-  pub length-all_shared : (d : ℕ) (xs coins : List X) → length (all_shared R d xs coins) ≡ length xs
-  length-all_shared d [] coins = refl
-  length-all_shared d (x ∷ xs) coins = ap suc (length-all_shared d xs (drop d coins))
 
 -- one word more is shared, behind values that stay
 pub shared_more : (d k start used : ℕ) (ws coins : List ℕ) (values front : List (List ℕ)) (shares : List ℕ) → k < length ws → start + k < length values →

@@ -15,16 +15,16 @@ use Rattle.mask_circuit.specs.Expansion.{Carried, CircuitWire, shares_of, put, s
 use Rattle.mask_circuit.proofs.Numbering.{wire_count-before, length-names_of}
 use Rattle.mask_circuit.proofs.Places.{length-each, length-joined}
 use Rattle.mask_laws.proofs.Carrying.{put-same, run-earlier}
-use Rattle.mask_laws.proofs.Operands.{map-same_in}
+use Rattle.mask_laws.proofs.Operands.{share-same}
+use Rattle.mask_laws.specs.Sharing.{SameShares}
+use Rattle.mask_laws.proofs.Members.{map-same_in}
 use Rattle.mask_shares.specs.Sharing.{all_listed}
-use Rattle.mask_shares.proofs.Lists.{each-same}
+use Rattle.mask_shares.proofs.Lists.{each-same, map-each}
 use Rattle.mask_gadget.specs.Wiring.{told_more}
 use Rattle.mask_gadget.proofs.Agreeing.{product_wires-agree, refresh_wires-agree}
-use Rattle.mask_gadget.proofs.Made.{map-each}
 use Rattle.mask_gadget.proofs.Telling.{told_more-more}
-use Rattle.mask_eval.specs.Frames.{SameShares}
 use Rattle.mask_eval.specs.Telling.{wires_from}
-use Rattle.mask_eval.proofs.Runs.{share-same, earlier-same, set-same}
+use Rattle.mask_eval.proofs.Runs.{earlier-same, set-same}
 
 module _ {X : Type 0} (R : Ring X) (N : ℕ) (two : 2 ≤ N) where
   -- the output shares of a gate depend on the operands' shares alone ..
@@ -32,7 +32,7 @@ module _ {X : Type 0} (R : Ring X) (N : ℕ) (two : 2 ≤ N) where
       gate_out R N g s r ≡ gate_out R N g s' r
   out-same n g s s' r below same =
       map-each (gate_wire R N g s r) Share N
-      ∙ each-same _ _ N (λ i lt. share-same R N n g s s' r below same i lt)
+      ∙ each-same _ _ N (λ i lt. share-same R N n g s s' r i below same lt)
       ∙ sym (map-each (gate_wire R N g s' r) Share N)
 
   -- .. and so do its wires
@@ -67,7 +67,7 @@ module _ {X : Type 0} (R : Ring X) (N : ℕ) (two : 2 ≤ N) where
       ap₂ (λ (xs ys : List X). xs ++ ys) (gate-same n g (shares_of t) (shares_of t') (take (gate_draws N g) r) are.0 same)
       (wires_from-same gs (suc n) _ _ (drop (gate_draws N g) r) are.1
       (λ v j lv lj. put-same n v (Share j) (gate_wire R N g (shares_of t) (take (gate_draws N g) r)) (gate_wire R N g (shares_of t') (take (gate_draws N g) r)) t t'
-      (λ e. share-same R N n g (shares_of t) (shares_of t') (take (gate_draws N g) r) are.0 same j lj)
+      (λ e. share-same R N n g (shares_of t) (shares_of t') (take (gate_draws N g) r) j are.0 same lj)
       (λ ne. same v j (omega arith) lj)))
 
   -- they read as many fresh bits as they draw

@@ -1,7 +1,6 @@
--- What a frame holds for a circuit, and when shares agree.
-use Rattle.std.specs.Prelude.{◌≡◌, ℕ, ◌<◌, List, length, take}
+-- What a frame holds for a circuit.
+use Rattle.std.specs.Prelude.{◌≡◌, ℕ, List, length, take}
 use Rattle.mask_circuit.specs.Netlist.{Netlist, value_count}
-use Rattle.mask_circuit.specs.Wires.{Shares}
 
 -- how many inputs there are, the shares of all values, inputs first, and the shares of the outputs
 pub record Held : Type 0 where
@@ -18,7 +17,3 @@ pub record IsFrameOf (f : Held) (c : Netlist) : Type 0 where
   pub inputs : f.inputs ≡ c.inputs
   pub values : length f.values ≡ value_count c
   pub outputs : length f.outputs ≡ length c.outputs
-
--- the first n values have the same N shares
-abbrev pub SameShares : {X : Type 0} → ℕ → ℕ → (ℕ → Shares X) → (ℕ → Shares X) → Type 0
-SameShares N n s s' = (u i : ℕ) → u < n → i < N → s u i ≡ s' u i

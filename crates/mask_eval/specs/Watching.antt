@@ -1,8 +1,13 @@
 -- What a watch is told, and what it is ready for.
-use Rattle.std.specs.Prelude.{ℕ, Bool, List, [], ◌∷◌, ◌++◌, Option, Some, None}
+use Rattle.std.specs.Prelude.{◌≡◌, ℕ, suc, Bool, List, [], ◌∷◌, ◌++◌, length, All}
+use Rattle.std.specs.List.{flat_map}
 use Rattle.mask_bits.specs.Lanes.{lane}
 use Rattle.mask_circuit.specs.Netlist.{Netlist}
+use Rattle.mask_circuit.specs.Ring.{bits}
 use Rattle.mask_circuit.specs.Wires.{each}
+use Rattle.mask_circuit.specs.Expansion.{draws, outs}
+use Rattle.mask_circuit.specs.Sharing.{all_listed}
+pub use Rattle.mask_gadget.specs.Wiring.{told_more}
 
 -- One evaluation in one lane: the shares of the inputs value by value, the bits that products and refreshes drew, and
 -- the shares of the outputs. The order is the number of shares less one.
@@ -18,10 +23,19 @@ abbrev pub reports : Netlist → ℕ → List ℕ → List ℕ → List ℕ → 
 reports c order inputs coins outputs lanes =
     each (λ l. record { circuit = c; order = order; inputs = lane l inputs; tape = lane l coins; outputs = lane l outputs }) lanes
 
--- these too, where it tells what it was told
-abbrev pub told_more : Option (List Told) → List Told → Option (List Told)
-told_more None more = None
-told_more (Some told) more = Some (told ++ more)
+-- the shares of all values, one value after another
+abbrev pub value_by_value : List (List Bool) → List Bool
+value_by_value values = flat_map (λ shares. shares) values
+
+-- The record is an evaluation: the circuit expanded into shares takes the told shares of the inputs, value by value, to the
+-- told shares of the outputs, with the told bits as its tape.
+pub record IsEvaluation (t : Told) : Type 0 where
+  pub shares : List (List Bool)
+  pub count : length shares ≡ t.circuit.inputs
+  pub sizes : All (λ value. length value ≡ suc t.order) shares
+  pub inputs : t.inputs ≡ value_by_value shares
+  pub tape : length t.tape ≡ draws t.circuit (suc t.order)
+  pub outputs : t.outputs ≡ value_by_value (outs bits t.circuit (suc t.order) (all_listed bits shares) t.tape)
 
 -- An evaluation that is still to come.
 pub record Awaited : Type 0 where

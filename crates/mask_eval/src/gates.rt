@@ -8,7 +8,7 @@ ghost use Rattle.mask_circuit.specs.Expansion.{start, run, shares_of, expand, dr
 ghost use Rattle.mask_shares.specs.Sharing.{all_listed};
 ghost use Rattle.mask_tape.specs.Drawn.{ahead, left};
 ghost use Rattle.mask_gadget.specs.Wiring.{told_more};
-ghost use Rattle.mask_eval.specs.Frames.{SameShares};
+ghost use Rattle.mask_laws.specs.Sharing.{SameShares};
 ghost use Rattle.mask_eval.specs.Telling.{made_wires, wires_from};
 
 use mask_check::Admitted;

@@ -5,11 +5,11 @@ use Rattle.mask_circuit.specs.Ring.{Ring}
 use Rattle.mask_circuit.specs.declared.gates.Gate.TheVariants.{Zero, And, Ref}
 use Rattle.mask_circuit.specs.declared.gates.Wire.{Wire}
 use Rattle.mask_circuit.specs.declared.gates.Wire.TheVariants.{Share, Product, Fresh, Left, Right, Partial}
-use Rattle.mask_circuit.specs.Wires.{Shares, row_sum, cross, product_wire, product_names, fresh_between, refresh_wire, refresh_names, share_names}
+use Rattle.mask_circuit.specs.Wires.{Shares, row_sum, product_wire, product_names, fresh_between, refresh_wire, refresh_names, share_names}
 use Rattle.mask_laws.specs.Names.{IsProductName, IsRefreshName, IsShareName}
 use Rattle.mask_laws.proofs.Names.{gate_names-by_shape}
-use Rattle.mask_laws.proofs.Operands.{map-same_in}
-use Rattle.mask_gadget.proofs.Rows.{row_sum-same}
+use Rattle.mask_laws.proofs.Operands.{row-same}
+use Rattle.mask_laws.proofs.Members.{map-same_in}
 
 -- an output share is a wire of a product, and of a refresh
 product_share : (n : ℕ) (w : Wire) → IsShareName n w → IsProductName n w
@@ -30,13 +30,6 @@ refresh_share n (Partial i k) is = absurd is
 
 module _ {X : Type 0} (R : Ring X) (n : ℕ) (r : ℕ → ℕ → X) where
   module _ (a a' b b' : Shares X) (left : (i : ℕ) → i < n → a i ≡ a' i) (right : (i : ℕ) → i < n → b i ≡ b' i) where
-    cross-same : (i j : ℕ) → i < n → j < n → cross R a b r i j ≡ cross R a' b' r i j
-    cross-same i j hi hj = rw (left i hi, left j hj, right i hi, right j hj) refl
-
-    row-same : (i k : ℕ) → i < n → k < n → row_sum R (R.mul (a i) (b i)) (cross R a b r i) i k ≡ row_sum R (R.mul (a' i) (b' i)) (cross R a' b' r i) i k
-    row-same i k hi hk =
-        row_sum-same R _ _ _ _ i k (rw (left i hi, right i hi) refl) (λ j le ne. cross-same i j hi (omega arith))
-
     term-same : (i j : ℕ) → i < n → j < n → R.mul (a i) (b j) ≡ R.mul (a' i) (b' j)
     term-same i j hi hj = rw (left i hi, right j hj) refl
 
@@ -45,12 +38,12 @@ module _ {X : Type 0} (R : Ring X) (n : ℕ) (r : ℕ → ℕ → X) where
     right-same i j hi hj = rw (term-same i j hi hj, term-same j i hj hi) refl
 
     wire-same : (w : Wire) → IsProductName n w → product_wire R n a b r w ≡ product_wire R n a' b' r w
-    wire-same (Share i) is = row-same i (pred n) is (omega arith)
+    wire-same (Share i) is = row-same R n a a' b b' r left right i (pred n) is (omega arith)
     wire-same (Product i j) is = term-same i j is.0 is.1
     wire-same (Fresh i j) is = refl
     wire-same (Left i j) is = ap (R.add (r i j)) (term-same i j (omega (arith, is.0, is.1)) is.1)
     wire-same (Right i j) is = right-same i j (omega (arith, is.0, is.1)) is.1
-    wire-same (Partial i k) is = row-same i k is.0 is.1
+    wire-same (Partial i k) is = row-same R n a a' b b' r left right i k is.0 is.1
 
     pub product_wires-agree : 2 ≤ n → map (product_wire R n a b r) (product_names n) ≡ map (product_wire R n a' b' r) (product_names n)
     product_wires-agree two = map-same_in _ _ (product_names n) (λ w h. let shape = gate_names-by_shape n (And 0 0) w two in wire-same w (shape.0 h))

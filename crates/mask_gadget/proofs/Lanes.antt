@@ -1,20 +1,21 @@
 -- A map that keeps sums and products of a ring takes the wires of a gate to those of the images: so each lane of words
 -- has the wires of the gate on its bits.
-use Rattle.std.proofs.Common.{◌≡◌, ℕ, zero, suc, pred, ◌+◌, ◌%◌, ◌<◌, min, Bool, true, false, cond, ◌&&◌, ◌==◌, nat_eq, nat_lt, List, [], ◌∷◌, length, map, refl, ap, ◌∙◌, arith}
+use Rattle.std.proofs.Common.{◌≡◌, ℕ, zero, suc, pred, ◌<◌, Bool, true, false, cond, ◌&&◌, ◌==◌, nat_lt, List, [], ◌∷◌, length, map, refl, ap, ◌∙◌}
 use Rattle.std.proofs.Math.Path.{fun_ext}
 use Rattle.std.specs.Int.{bit_at}
-use Rattle.std.proofs.lemmas.Nat.Bits.{bit_at_xor, bit_at_and, bit_at-lt, bit_at-zero, bit_at_ones}
+use Rattle.std.proofs.lemmas.Nat.Bits.{bit_at_xor, bit_at-lt, bit_at-zero, bit_at_ones}
 use Rattle.std.proofs.lemmas.Simd.{map-map}
 use Rattle.std.proofs.lemmas.List.{length-map}
 use Rattle.mask_bits.specs.Reading.{bit}
 use Rattle.mask_bits.specs.Lanes.{lane}
+use Rattle.mask_bits.proofs.Words.{bit-and}
 use Rattle.mask_circuit.specs.declared.gates.Gate.{Gate}
 use Rattle.mask_circuit.specs.declared.gates.Gate.TheVariants.{Zero, One, Xor, Not, And, Ref}
-use Rattle.mask_circuit.specs.Value.{xor}
 use Rattle.mask_circuit.specs.Ring.{Ring, bits, words}
 use Rattle.mask_circuit.specs.declared.gates.Wire.{Wire}
 use Rattle.mask_circuit.specs.declared.gates.Wire.TheVariants.{Share, Product, Fresh, Left, Right, Partial}
 use Rattle.mask_circuit.specs.Wires.{Pair, Shares, fresh_of, row_sum, cross, product_wire, fresh_between, refresh_wire, share_wire, on_first, gate_wire, gate_wires, gate_out, gate_names, share_names, pairs}
+use Rattle.mask_laws.proofs.Bits.{xor_of_digits}
 use Rattle.mask_shares.specs.Sharing.{listed, all_listed}
 
 -- a map of one ring to another that keeps nought, sums and products
@@ -169,31 +170,12 @@ module _ {X Y : Type 0} (R : Ring X) (S : Ring Y) (h : X → Y) (keeps : Keeps R
       go (x ∷ values) zero i = listed-keeps x i
       go (x ∷ values) (suc u) i = go values u i
 
--- a bit is 0 or 1
-xor_of_digits : (a b : ℕ) → a < 2 → b < 2 → nat_eq ((a + b) % 2) 1 ≡ xor (nat_eq a 1) (nat_eq b 1)
-xor_of_digits zero zero ha hb = refl
-xor_of_digits zero (suc zero) ha hb = refl
-xor_of_digits (suc zero) zero ha hb = refl
-xor_of_digits (suc zero) (suc zero) ha hb = refl
-xor_of_digits (suc (suc a)) b ha hb = absurd (omega arith)
-xor_of_digits zero (suc (suc b)) ha hb = absurd (omega arith)
-xor_of_digits (suc zero) (suc (suc b)) ha hb = absurd (omega arith)
-
-and_of_digits : (a b : ℕ) → a < 2 → b < 2 → nat_eq (min a b) 1 ≡ (nat_eq a 1 && nat_eq b 1)
-and_of_digits zero zero ha hb = refl
-and_of_digits zero (suc zero) ha hb = refl
-and_of_digits (suc zero) zero ha hb = refl
-and_of_digits (suc zero) (suc zero) ha hb = refl
-and_of_digits (suc (suc a)) b ha hb = absurd (omega arith)
-and_of_digits zero (suc (suc b)) ha hb = absurd (omega arith)
-and_of_digits (suc zero) (suc (suc b)) ha hb = absurd (omega arith)
-
 -- each bit of a word keeps what words do
 pub keeps_lane : (l : ℕ) → Keeps words bits (bit l)
 keeps_lane l = record {
   nought = rw (bit_at-zero l) refl;
   add = λ a b. rw (bit_at_xor a b l) (xor_of_digits (bit_at a l) (bit_at b l) (bit_at-lt a l) (bit_at-lt b l));
-  mul = λ a b. rw (bit_at_and a b l) (and_of_digits (bit_at a l) (bit_at b l) (bit_at-lt a l) (bit_at-lt b l));
+  mul = λ a b. bit-and a b l;
 }
 
 -- and each of the 64 keeps the unit

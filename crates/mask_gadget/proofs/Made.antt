@@ -4,10 +4,6 @@ use Rattle.std.proofs.lemmas.List.{map-append, append-nil}
 use Rattle.std.proofs.lemmas.Grind.{flat_map-append}
 use Rattle.mask_circuit.specs.Wires.{each, joined}
 
-pub map-each : {A B : Type 0} (h : A → B) (f : ℕ → A) (n : ℕ) → map h (each f n) ≡ each (λ i. h (f i)) n
-map-each h f zero = refl
-map-each h f (suc n) = rw (map-append h (each f n) (f n ∷ []), map-each h f n) refl
-
 pub map-joined : {A B : Type 0} (h : A → B) (f : ℕ → List A) (n : ℕ) → map h (joined f n) ≡ joined (λ i. map h (f i)) n
 map-joined h f zero = refl
 map-joined h f (suc n) = rw (map-append h (joined f n) (f n), map-joined h f n) refl
@@ -20,11 +16,7 @@ pub flat_map-joined : {A B : Type 0} (g : A → List B) (f : ℕ → List A) (n 
 flat_map-joined g f zero = refl
 flat_map-joined g f (suc n) = rw (flat_map-append g (joined f n) (f n), flat_map-joined g f n) refl
 
--- the same elements, and the same pieces, give the same list
-pub each-same : {A : Type 0} (f g : ℕ → A) (n : ℕ) → ((k : ℕ) → k < n → f k ≡ g k) → each f n ≡ each g n
-each-same f g zero same = refl
-each-same f g (suc n) same = rw (each-same f g n (λ k lt. same k (omega arith)), same n (omega arith)) refl
-
+-- the same pieces give the same list
 pub joined-same : {A : Type 0} (f g : ℕ → List A) (n : ℕ) → ((k : ℕ) → k < n → f k ≡ g k) → joined f n ≡ joined g n
 joined-same f g zero same = refl
 joined-same f g (suc n) same = rw (joined-same f g n (λ k lt. same k (omega arith)), same n (omega arith)) refl

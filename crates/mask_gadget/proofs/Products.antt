@@ -1,32 +1,26 @@
 -- The wires of a product: its parts, and the sums of its rows.
-use Rattle.std.proofs.Common.{◌≡◌, ℕ, suc, pred, ◌+◌, ◌-◌, ◌*◌, ◌<◌, Option, List, ◌++◌, length, map, bit_xor, bit_and, flat_map, refl, sym, ap, ◌∙◌, arith, length-append}
+use Rattle.std.proofs.Common.{◌≡◌, ℕ, suc, pred, ◌+◌, ◌-◌, ◌*◌, ◌<◌, Option, List, ◌++◌, length, map, bit_xor, bit_and, flat_map, refl, sym, ap, ◌∙◌, arith}
 use Rattle.std.proofs.lemmas.List.{map-append}
 use Rattle.mask_circuit.specs.Ring.{words}
 use Rattle.mask_circuit.specs.declared.gates.Wire.{Wire}
 use Rattle.mask_circuit.specs.declared.gates.Wire.TheVariants.{Share, Product}
 use Rattle.mask_circuit.specs.Wires.{Pair, Shares, each, joined, pairs, other, row_wire, row_sum, cross, product_wire, product_names}
-use Rattle.mask_circuit.proofs.Places.{length-each, length-joined, length-threes}
+use Rattle.mask_circuit.proofs.PairNumbers.{length-pairs}
 use Rattle.mask_gadget.specs.Wiring.{told_more}
 use Rattle.mask_gadget.specs.Gadgets.{Mixed, pair_names, pair_row, row_names}
-use Rattle.mask_gadget.proofs.Made.{map-each, map-joined, each-same, joined-same}
+use Rattle.mask_shares.proofs.Lists.{map-each, each-same}
+use Rattle.mask_gadget.proofs.Made.{map-joined, joined-same}
 use Rattle.mask_gadget.proofs.Mixing.{all_mixed}
 use Rattle.mask_gadget.proofs.Pairs.{by_rows}
-use Rattle.mask_gadget.proofs.Rows.{partial, partial-more, row_wire-sum, row_sum-same, other-below}
+use Rattle.mask_laws.proofs.Names.{other-below}
+use Rattle.mask_laws.proofs.Sums.{row_sum-same}
+use Rattle.mask_laws.proofs.LocalNumbers.{length-product_names}
+use Rattle.mask_gadget.proofs.Rows.{partial, partial-more, row_wire-sum}
 use Rattle.mask_gadget.proofs.Telling.{told_then}
 
 -- how many wires there are: all a_i · b_j, three for each pair, and the partial sums of each row
 pub product_count : (n : ℕ) → length (product_names n) ≡ n * n + 3 * length (pairs n) + n * (n - 1)
-product_count n =
-    let products = length-joined (λ i. each (Product i) n) n n (λ i. length-each (Product i) n) in
-    let threes = length-threes (λ (p : Pair). pair_names p.0 p.1) (pairs n) (λ q. refl) in
-    let sums = length-joined (row_names n) (pred n) n (λ i. length-each (λ m. row_wire n i (other i m)) (pred n)) in
-    let less : pred n ≡ n - 1 = omega arith in
-    let rows : length (joined (row_names n) n) ≡ n * (n - 1) = rw less at sums in
-    omega (
-      arith,
-      length-append (joined (λ i. each (Product i) n) n ++ flat_map (λ (p : Pair). pair_names p.0 p.1) (pairs n)) (joined (row_names n) n),
-      length-append (joined (λ i. each (Product i) n) n) (flat_map (λ (p : Pair). pair_names p.0 p.1) (pairs n)),
-    )
+product_count n = length-product_names n ∙ ap (λ (k : ℕ). n * n + 3 * k + n * (n - 1)) (sym (length-pairs n))
 
 -- one partner more in a row
 pub partner_more : (first : ℕ) (term : ℕ → ℕ) (i m sum sum' : ℕ) → sum ≡ partial words first term i m → sum' ≡ bit_xor sum (term (other i m)) →

@@ -1,10 +1,11 @@
 -- The sum of a row, column by column, where row i has no column i.
 use Rattle.std.proofs.Common.{◌≡◌, ◌≢◌, ℕ, zero, suc, pred, ◌-◌, ◌<◌, ◌≤◌, inl, inr, Bool, true, false, cond, ◌==◌, refl, sym, ap, ◌∙◌, arith, eq-eqb, ne_eqb, eqb-true}
-use Rattle.std.proofs.lemmas.Bool.{cases_lt, and_parts, lt-ltb, le-ltb, eqb-false}
+use Rattle.std.proofs.lemmas.Bool.{cases_lt, and_parts, lt-ltb, le-ltb}
 use Rattle.mask_circuit.specs.Ring.{Ring}
 use Rattle.mask_circuit.specs.declared.gates.Wire.{Wire}
 use Rattle.mask_circuit.specs.declared.gates.Wire.TheVariants.{Share, Partial}
 use Rattle.mask_circuit.specs.Wires.{other, is_last, row_wire, row_sum}
+use Rattle.mask_laws.proofs.Names.{other-apart}
 use Rattle.mask_gadget.specs.Gadgets.{row_before}
 
 -- column i adds nothing ..
@@ -24,12 +25,6 @@ other-low i m lt = rw (lt-ltb m i lt) refl
 
 pub other-high : (i m : ℕ) → i ≤ m → other i m ≡ suc m
 other-high i m le = rw (le-ltb m i le) refl
-
-pub other-apart : (i m : ℕ) → i ≢ other i m
-other-apart i m = elim (cases_lt m i) [ inl low ↦ rw (other-low i m low) (omega arith) | inr high ↦ rw (other-high i m high) (omega arith) ]
-
-pub other-below : (n i m : ℕ) → i < n → m < n - 1 → other i m < n
-other-below n i m hi hm = elim (cases_lt m i) [ inl low ↦ rw (other-low i m low) (omega arith) | inr high ↦ rw (other-high i m high) (omega arith) ]
 
 -- the sum of row i after its first m partners
 abbrev pub partial : {X : Type 0} → Ring X → X → (ℕ → X) → ℕ → ℕ → X
@@ -84,23 +79,6 @@ row_wire-sum R W first term n i k share inner = go (is_last n i k) refl
     go : (last : Bool) → is_last n i k ≡ last → W (cond last (Share i) (Partial i k)) ≡ row_sum R first term i k
     go true at = share ∙ at_last R first term n i k (suc k == n) refl at
     go false at = inner
-
--- the same first term and the same terms give the same sum
-pub row_sum-same : {X : Type 0} (R : Ring X) (first first' : X) (t t' : ℕ → X) (i k : ℕ) → first ≡ first' → ((j : ℕ) → j ≤ k → i ≢ j → t j ≡ t' j) →
-    row_sum R first t i k ≡ row_sum R first' t' i k
-row_sum-same R first first' t t' i zero e same = go (i == 0) refl
-  where
-    go : (here : Bool) → (i == 0) ≡ here → cond here first (R.add first (t 0)) ≡ cond here first' (R.add first' (t' 0))
-    go true at = e
-    go false at = rw (e, same 0 (omega arith) (eqb-false i 0 at)) refl
-row_sum-same R first first' t t' i (suc k) e same =
-    go (row_sum-same R first first' t t' i k e (λ j le ne. same j (omega arith) ne)) (i == suc k) refl
-  where
-    go : row_sum R first t i k ≡ row_sum R first' t' i k → (here : Bool) → (i == suc k) ≡ here →
-        cond here (row_sum R first t i k) (R.add (row_sum R first t i k) (t (suc k)))
-        ≡ cond here (row_sum R first' t' i k) (R.add (row_sum R first' t' i k) (t' (suc k)))
-    go up true at = up
-    go up false at = rw (up, same (suc k) (omega arith) (eqb-false i (suc k) at)) refl
 
 -- the same where the number of partners is given otherwise
 pub partial-end : {X : Type 0} (R : Ring X) (first : X) (term : ℕ → X) (n i m : ℕ) → 2 ≤ n → i < n → m ≡ n - 1 →

@@ -11,8 +11,7 @@ use Rattle.mask_circuit.proofs.Places.{length-each}
 use Rattle.mask_laws.proofs.BitSums.{total, total-xor, unmasked-each}
 use Rattle.mask_laws.proofs.Unmasking.{Stand, gate_total}
 use Rattle.mask_shares.specs.Sharing.{listed, all_listed, unmasked}
-use Rattle.mask_shares.proofs.Lists.{get_or-each}
-use Rattle.mask_gadget.proofs.Made.{map-each}
+use Rattle.mask_shares.proofs.Lists.{get_or-each, map-each}
 
 -- a list is made by its own elements
 each-listed : (xs : List Bool) (n : ℕ) → length xs ≡ n → xs ≡ each (listed bits xs) n

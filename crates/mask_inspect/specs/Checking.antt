@@ -6,7 +6,7 @@ use Rattle.mask_circuit.specs.Acceptance.{IsAccepted, IsStrong}
 use Rattle.mask_check.specs.Security.{IsNIAtEachOrder, IsSNIAtEachOrder}
 use Rattle.mask_text.specs.Text.{IsTextOf}
 use Rattle.mask_status.specs.declared.status.Status.{Status}
-use Rattle.mask_inspect.specs.Ends.{Writes}
+use Rattle.mask_status.specs.Ends.{Writes}
 
 -- the line for these counts
 abbrev pub check_line : ℕ → ℕ → ℕ → Bool → List ℕ

@@ -1,8 +1,7 @@
 -- How a run that reads a circuit text ends, by the bytes that it took from the input.
-use Rattle.std.specs.Prelude.{◌≡◌, ◌⊎◌, ℕ, ◌+◌, ◌^◌, ◌<◌, ◌≤◌, Bool, true, false, List, length}
+use Rattle.std.specs.Prelude.{◌≡◌, ◌⊎◌, ℕ, ◌+◌, ◌^◌, ◌<◌, ◌≤◌, List, length}
 use Rattle.std.specs.declared.option.Option.{Option}
-use Rattle.std.specs.Io.KnownBytes.{Appends, Consumes, IsAtEnd}
-use Rattle.mask_io.specs.Outside.{AppendsProperPrefix}
+use Rattle.std.specs.Io.KnownBytes.{Consumes, IsAtEnd}
 use Rattle.mask_circuit.specs.Netlist.{Netlist}
 use Rattle.mask_circuit.specs.Acceptance.{IsClash}
 use Rattle.mask_text.specs.Text.{IsTextOf}
@@ -54,34 +53,9 @@ RefusesCircuit c (Refused product source) = IsClash c product source
 RefusesCircuit c NoMemory = Unit {0}
 RefusesCircuit c status = ⊥
 
--- a fault of the input, of the tape, of the output
-abbrev pub is_read_fault : Status → Bool
-is_read_fault ReadFault = true
-is_read_fault status = false
-
-abbrev pub is_tape_fault : Status → Bool
-is_tape_fault TapeFault = true
-is_tape_fault status = false
-
-abbrev pub is_write_fault : Status → Bool
-is_write_fault WriteFault = true
-is_write_fault status = false
-
--- the line was written whole with Done, and a proper prefix of it with a fault of writing
-abbrev pub Writes : List ℕ → Option (List ℕ) → Option (List ℕ) → Status → Type 0
-Writes line before now Done = Appends before now line
-Writes line before now WriteFault = AppendsProperPrefix before now line
-Writes line before now status = ⊥
-
 -- a status of a run that did nothing yet
 abbrev pub IsEarly : Status → Type 0
 IsEarly Done = ⊥
 IsEarly TapeFault = ⊥
 IsEarly WriteFault = ⊥
 IsEarly status = Unit {0}
-
--- a status with which nothing was written
-abbrev pub ComesBeforeWriting : Status → Type 0
-ComesBeforeWriting Done = ⊥
-ComesBeforeWriting WriteFault = ⊥
-ComesBeforeWriting status = Unit {0}

@@ -14,7 +14,7 @@ use Rattle.mask_words.specs.WordTests.{Word, number_of}
 use Rattle.mask_status.specs.declared.status.Status.{Status}
 use Rattle.mask_status.specs.declared.status.Status.TheVariants.{BadProbe, NoMemory}
 use Rattle.mask_inspect.specs.Checks.{IsBadProbe}
-use Rattle.mask_inspect.specs.Ends.{Writes}
+use Rattle.mask_status.specs.Ends.{Writes}
 
 -- the numbers of the WIRE words: those from the fifth word on
 abbrev pub wires_of : List Word → List ℕ

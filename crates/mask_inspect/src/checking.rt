@@ -5,16 +5,16 @@ ghost use Rattle.mask_io.specs.Outside.{faults_after};
 ghost use Rattle.mask_text.specs.Answers.{TakesFront};
 ghost use Rattle.mask_check.specs.Costs.{most_steps};
 ghost use Rattle.mask_inspect.specs.Checks.{Grammar, Acceptance};
-ghost use Rattle.mask_inspect.specs.Ends.{Takes, Ends, CostsAtMost, ComesBeforeWriting, RefusesCircuit, is_read_fault, is_write_fault};
+ghost use Rattle.mask_inspect.specs.Ends.{Takes, Ends, CostsAtMost, RefusesCircuit};
+ghost use Rattle.mask_status.specs.Ends.{ComesBeforeWriting, is_read_fault, is_write_fault};
 ghost use Rattle.mask_inspect.specs.Checking.{PrintsVerdict, IsJudged, TellsStrong, SaysStrong, check_line};
 
 use crate::reading::{admitted, read};
-use crate::writing::send;
 use itoa::Buffer;
 use mask_check::{Admitted, StrengthenError, strengthen};
 use mask_circuit::{Circuit, Steps};
 use mask_io::{Sink, Source};
-use mask_status::Status;
+use mask_status::{Status, send};
 use std::alloc::{AllocError, Global};
 use std::sync::ledger::Ledger;
 

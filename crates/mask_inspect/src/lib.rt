@@ -8,11 +8,9 @@ mod laws;
 mod probing;
 mod reading;
 mod upgrading;
-mod writing;
 
 pub use checking::check;
 pub use laws::checks_decide;
 pub use probing::probe;
 pub use reading::{admitted, read};
 pub use upgrading::upgrade;
-pub use writing::send;

@@ -7,7 +7,8 @@ ghost use Rattle.mask_text.specs.Answers.{TakesFront};
 ghost use Rattle.mask_check.specs.Costs.{most_steps};
 ghost use Rattle.mask_check.specs.Security.{IsNIAtEachOrder};
 ghost use Rattle.mask_inspect.specs.Checks.{Grammar};
-ghost use Rattle.mask_inspect.specs.Ends.{Takes, IsRead, Stops, IsEarly, RefusesCircuit, status_of, is_read_fault};
+ghost use Rattle.mask_inspect.specs.Ends.{Takes, IsRead, Stops, IsEarly, RefusesCircuit, status_of};
+ghost use Rattle.mask_status.specs.Ends.{is_read_fault};
 
 use mask_check::{AdmitError, Admitted, admit};
 use mask_circuit::{Circuit, Steps};

@@ -5,7 +5,8 @@ ghost use Rattle.mask_io.specs.Outside.{faults_after};
 ghost use Rattle.mask_circuit.specs.Text.{canonical2};
 ghost use Rattle.mask_text.specs.Answers.{TakesFront};
 ghost use Rattle.mask_inspect.specs.Checks.{Grammar};
-ghost use Rattle.mask_inspect.specs.Ends.{Takes, Ends, ComesBeforeWriting, Writes, is_read_fault, is_write_fault};
+ghost use Rattle.mask_inspect.specs.Ends.{Takes, Ends};
+ghost use Rattle.mask_status.specs.Ends.{ComesBeforeWriting, Writes, is_read_fault, is_write_fault};
 ghost use Rattle.mask_inspect.specs.Upgrading.{PrintsSpelling};
 
 use crate::reading::status_of;

@@ -1,3 +1,4 @@
 pub mod Writing
 pub mod Seeds
+pub mod Filling
 mod Examples

@@ -10,8 +10,8 @@
 //! nothing.
 #![tactic(auto)]
 
-ghost use Rattle.std.specs.Prelude.{◌≡◌, ℕ, List, [], length, Option, IsOk, IfOk, OnOk, OnErr, MatchResult};
-ghost use Rattle.std.specs.Io.KnownBytes.{Appends};
+ghost use Rattle.std.specs.Prelude.{◌≡◌, ℕ, ◌<◌, ◌≤◌, List, [], length, take, Option, IsOk, IfOk, OnOk, OnErr, MatchResult};
+ghost use Rattle.std.specs.Io.KnownBytes.{Appends, Consumes, IsAtEnd};
 ghost use Rattle.std.specs.Result.{is_err};
 ghost use Rattle.mask_io.specs.Outside.{faults_after, Gives, Accepts, Takes, Stays, AppendsProperPrefix};
 
@@ -103,4 +103,30 @@ pub fn write_all<O: Sink>(sink: &mut O, piece: &[u8]) -> Result<(), Failed>
         rest = &rest[taken..];
     }
     Ok(())
+}
+
+/// Reads into the buffer until it is full or nothing is left, and says how many bytes came.
+///
+/// On a failure those that came before it are lost.
+pub fn read_full<S: Source>(source: &mut S, buf: &mut [u8]) -> Result<usize, Failed>
+    ensures bound { IfOk result (λ n. n ≤ length buf.old) }
+    ensures room { length buf.new ≡ length buf.old }
+    ensures taken { IfOk result (λ n. Consumes (S.left source.old) (S.left source.new) (take n buf.new)) }
+    ensures end { IfOk result (λ n. n < length buf.old → IsAtEnd (S.left source.new)) }
+    ensures part { OnErr result ((bytes : List ℕ) × Consumes (S.left source.old) (S.left source.new) bytes
+        × (length bytes < length buf.old)) }
+    ensures counts { S.faults source.new ≡ faults_after (is_err result) (S.faults source.old) }
+{
+    let mut came = 0;
+    while came < buf.len() {
+        let count = match source.read(&mut buf[came..]) {
+            Ok(count) => count,
+            Err(failed) => return Err(failed),
+        };
+        if count == 0 {
+            return Ok(came);
+        }
+        came += count;
+    }
+    Ok(came)
 }

@@ -6,13 +6,13 @@ use Rattle.std.proofs.lemmas.Bool.{and_parts, lt-ltb, leb-true}
 use Rattle.std.proofs.lemmas.Bool.Decides.{nat_tests}
 use Rattle.std.proofs.lemmas.List.{length-map, map-append}
 use Rattle.std.proofs.lemmas.List.Elements.{All-append, All-cons, All-nil}
-use Rattle.std.proofs.lemmas.List.Folds.{concat-append}
 use Rattle.std.proofs.lemmas.List.Sums.{position_or_len_is}
 use Rattle.std.proofs.Math.ListN.{get_or-append}
 use Rattle.std.proofs.Math.Nat.{mul-le-mul_right}
 use Rattle.std.proofs.Math.Seq.{get_or-append_seam}
 use Rattle.hex.specs.declared.error.FromHexError.{FromHexError}
 use Rattle.mask_text.specs.Lines.{text_lines}
+use Rattle.mask_shares.proofs.Lists.{concat-push}
 use Rattle.mask_keys.specs.declared.files.KeyLength.{KeyLength}
 use Rattle.mask_keys.specs.declared.files.KeyLength.TheVariants.{Exactly, Any}
 use Rattle.mask_keys.specs.declared.files.KeyError.TheVariants.{Line, Count}
@@ -54,9 +54,6 @@ length-concat n (key ∷ keys) long =
     let here : length key ≡ n = long 0 [] (omega arith) in
     let rest = length-concat n keys (λ k d lt. long (suc k) d (omega arith)) in
     omega (arith, length-append key (concat keys))
-
-concat-push : (keys : List (List ℕ)) (key : List ℕ) → concat (keys ++ key ∷ []) ≡ concat keys ++ key
-concat-push keys key = concat-append keys (key ∷ []) ∙ ap (λ (xs : List ℕ). concat keys ++ xs) (append-nil key)
 
 -- what holds where there is a value
 pub on_ok : {T E P : Type 0} (r : Result T E) → IsOk r → OnOk r P → P

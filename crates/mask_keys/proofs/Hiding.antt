@@ -11,14 +11,15 @@ use Rattle.mask_circuit.specs.Sharing.{listed, all_shared}
 use Rattle.mask_circuit.specs.Wires.{Shares, each}
 use Rattle.mask_circuit.specs.Probing.{sum_over_tapes}
 use Rattle.mask_circuit.specs.Privacy.{sharing, sum_over_sharings}
-use Rattle.mask_shares.proofs.Lists.{length-each, get_or-each, each-same}
-use Rattle.mask_laws.proofs.Seen.{map-same}
+use Rattle.mask_circuit.proofs.Places.{length-each}
+use Rattle.mask_shares.proofs.Lists.{get_or-each, each-same}
 use Rattle.mask_laws.proofs.Sets.{size-owned}
-use Rattle.mask_laws.proofs.Sharings.{sum_over_sharings-same}
+use Rattle.mask_laws.proofs.Sharings.{sum_over_sharings-same, length-all_shared}
 use Rattle.mask_laws.proofs.Tapes.{sum_over_tapes-same}
+use Rattle.mask_laws.proofs.Members.{map-same_in}
 use Rattle.mask_keys.specs.Splitting.{packed, shares_at, split_line, split_lines, split_bits}
 use Rattle.mask_keys.specs.Laws.{shown, are_same, split_hits, SplitHides}
-use Rattle.mask_keys.proofs.Sharing.{length-all_shared, length-split_lines, get_or-split_lines}
+use Rattle.mask_keys.proofs.Sharing.{length-split_lines, get_or-split_lines}
 
 -- LINES BY NUMBER
 
@@ -38,7 +39,7 @@ by_number : (d k : ℕ) (key : List ℕ) (coins : List Bool) →
 unfolding split_line shares_at
 by_number d k key coins =
     ap (packed (length key)) (map-by_number (λ s. listed bits s k) (all_shared bits d (low key) coins)
-    ∙ ap (each (λ v. sharing (suc d) (low key) coins v k)) (length-all_shared d (low key) coins ∙ length-low key))
+    ∙ ap (each (λ v. sharing (suc d) (low key) coins v k)) (length-all_shared bits d (low key) coins ∙ length-low key))
 
 -- the lines of a split are those of the shares
 line_of-split : (d : ℕ) (key : List ℕ) (coins : List Bool) (k : ℕ) → get_or (split_lines d key coins) k [] ≡ line_of d (length key) (sharing (suc d) (low key) coins) k
@@ -61,7 +62,7 @@ split_hits-sharings d P key v =
     let count : split_bits d key ≡ d * length (low key) = rw long (omega arith) in
     ap (λ (m : ℕ). sum_over_tapes m (λ coins. cond (are_same (shown P (split_lines d key coins)) v) 1 0)) count
     ∙ sum_over_tapes-same (d * length (low key)) _ _ (λ coins long. ap (λ (lines : List (List ℕ)). cond (are_same lines v) 1 0)
-    (map-same (λ k. get_or (split_lines d key coins) k []) (line_of d (length key) (sharing (suc d) (low key) coins)) P (λ k in_P. line_of-split d key coins k)))
+    (map-same_in (λ k. get_or (split_lines d key coins) k []) (line_of d (length key) (sharing (suc d) (low key) coins)) P (λ k in_P. line_of-split d key coins k)))
 
 -- THE LINES THAT ARE SHOWN
 
@@ -76,7 +77,7 @@ shown-Contains P k h = list_any_at (λ (p : ℕ). p == k) P h.0 k h.1 (eq-eqb _ 
 hit-depends : (d n : ℕ) (P : List ℕ) (v : List (List ℕ)) (s t : ℕ → Shares Bool) → ((u i : ℕ) → i < suc d → is_shown P i ≡ true → s u i ≡ t u i) → hit d n P v s ≡ hit d n P v t
 unfolding hit line_of
 hit-depends d n P v s t agree =
-    ap (λ (lines : List (List ℕ)). cond (are_same lines v) 1 0) (map-same (line_of d n s) (line_of d n t) P (λ k in_P. same k in_P (nat_lt k (suc d)) refl))
+    ap (λ (lines : List (List ℕ)). cond (are_same lines v) 1 0) (map-same_in (line_of d n s) (line_of d n t) P (λ k in_P. same k in_P (nat_lt k (suc d)) refl))
   where
     same : (k : ℕ) → Contains P k → (b : Bool) → nat_lt k (suc d) ≡ b → cond b (packed n (each (λ u. s u k) (8 * n))) [] ≡ cond b (packed n (each (λ u. t u k) (8 * n))) []
     same k in_P false at = refl

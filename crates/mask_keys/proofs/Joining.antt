@@ -1,44 +1,35 @@
 -- The lines of a split are key lines, and their exclusive or is the key.
-use Rattle.std.proofs.Common.{◌≡◌, ℕ, zero, suc, ◌+◌, ◌*◌, ◌%◌, ◌^◌, ◌<◌, ◌≤◌, Bool, false, nat_eq, List, [], ◌∷◌, ◌++◌, map, fold, length, take, drop, get_or, bit_xor, refl, sym, ap, ap₂, ◌∙◌, subst, arith, length-drop, length-take, lit<}
+use Rattle.std.proofs.Common.{◌≡◌, ℕ, zero, suc, ◌+◌, ◌*◌, ◌^◌, ◌<◌, ◌≤◌, Bool, false, nat_eq, List, [], ◌∷◌, ◌++◌, map, fold, length, take, drop, get_or, bit_xor, refl, sym, ap, ap₂, ◌∙◌, subst, arith, length-drop, length-take, lit<}
 use Rattle.std.specs.List.{All}
 use Rattle.std.specs.Int.{bit_at}
-use Rattle.std.proofs.lemmas.List.{get_or-take, get_or-drop, length-take-le, ext_get_or, map-append, length-map, get_or-map, drop-drop}
+use Rattle.std.proofs.lemmas.List.{get_or-take, get_or-drop, length-take-le, length-map, get_or-map, drop-drop}
 use Rattle.std.proofs.lemmas.Nat.{xor_of_8}
 use Rattle.std.proofs.lemmas.Nat.Bits.{bit_at_xor, bit_at-lt, bit_at-zero}
 use Rattle.std.proofs.Math.Nat.{mod-eq_of_lt}
 use Rattle.std.proofs.Math.Pow.{pow_mono}
-use Rattle.mask_bits.specs.Reading.{bit, lowest, low, number}
+use Rattle.mask_bits.specs.Reading.{bit, lowest, low, number, AreBytes}
 use Rattle.mask_bits.proofs.Bytes.{length-low, low-place}
 use Rattle.mask_bits.proofs.Numbers.{number-lt, bit-number, number-lowest}
 use Rattle.mask_circuit.specs.Ring.{bits}
-use Rattle.mask_circuit.specs.Sharing.{shared, unmasked}
+use Rattle.mask_circuit.specs.Sharing.{shared}
 use Rattle.mask_circuit.specs.Value.{xor}
 use Rattle.mask_circuit.specs.Wires.{each}
-use Rattle.mask_shares.proofs.Lists.{length-each, get_or-each, each-same, is_each}
-use Rattle.mask_laws.proofs.BitSums.{fold-xor}
-use Rattle.mask_laws.proofs.Bits.{xor-false, xor_self, xor_assoc}
+use Rattle.mask_shares.proofs.Lists.{each-same, is_each, map-each, each-get_or}
+use Rattle.mask_laws.proofs.BitSums.{shared-unmasks}
+use Rattle.mask_laws.proofs.Bits.{xor_of_digits}
 use Rattle.mask_laws.proofs.CircuitNames.{All-each}
 use Rattle.mask_keys.specs.Lines.{line_length, joined}
 use Rattle.mask_keys.specs.Splitting.{packed, shares_at, split_line, split_lines, split_bits}
-use Rattle.mask_keys.specs.Laws.{AreBytes, SplitsJoin}
+use Rattle.mask_keys.specs.Laws.{SplitsJoin}
 use Rattle.mask_keys.proofs.Cutting.{line_end}
 use Rattle.mask_keys.proofs.Sharing.{get_or-shares_at, length-split_lines, get_or-split_lines}
 
 -- THE BITS OF AN EXCLUSIVE OR
 
-xor_of_digits : (a b : ℕ) → a < 2 → b < 2 → nat_eq ((a + b) % 2) 1 ≡ xor (nat_eq a 1) (nat_eq b 1)
-xor_of_digits zero zero ha hb = refl
-xor_of_digits zero (suc zero) ha hb = refl
-xor_of_digits (suc zero) zero ha hb = refl
-xor_of_digits (suc zero) (suc zero) ha hb = refl
-xor_of_digits (suc (suc a)) b ha hb = absurd (omega arith)
-xor_of_digits zero (suc (suc b)) ha hb = absurd (omega arith)
-xor_of_digits (suc zero) (suc (suc b)) ha hb = absurd (omega arith)
-
 bit-xor : (j a b : ℕ) → bit j (bit_xor a b) ≡ xor (bit j a) (bit j b)
 bit-xor j a b = rw (bit_at_xor a b j) (xor_of_digits (bit_at a j) (bit_at b j) (bit_at-lt a j) (bit_at-lt b j))
 
-bit-fold : (j start : ℕ) (xs : List ℕ) → bit j (fold bit_xor start xs) ≡ fold xor (bit j start) (map (bit j) xs)
+pub bit-fold : (j start : ℕ) (xs : List ℕ) → bit j (fold bit_xor start xs) ≡ fold xor (bit j start) (map (bit j) xs)
 bit-fold j start [] = refl
 bit-fold j start (x ∷ xs) = bit-fold j (bit_xor start x) xs ∙ ap (λ (b : Bool). fold xor b (map (bit j) xs)) (bit-xor j start x)
 
@@ -57,27 +48,6 @@ lowest-same (suc n) a b same = ap₂ (λ (l : List Bool) (c : Bool). l ++ c ∷ 
 byte-same : (a b : ℕ) → a < 2 ^ 8 → b < 2 ^ 8 → ((j : ℕ) → j < 8 → bit j a ≡ bit j b) → a ≡ b
 byte-same a b ha hb same =
     sym (number-lowest 8 a ∙ mod-eq_of_lt ha) ∙ ap number (lowest-same 8 a b same) ∙ number-lowest 8 b ∙ mod-eq_of_lt hb
-
--- THE SHARES OF ONE BIT
-
--- the sum of all shares of a bit is the bit
-shares-sum : (b : Bool) (coins : List Bool) → unmasked bits (shared bits b coins) ≡ b
-shares-sum b coins =
-    fold-xor (fold xor b coins) coins
-    ∙ ap (λ (s : Bool). xor s (unmasked bits coins)) (fold-xor b coins)
-    ∙ xor_assoc b (unmasked bits coins) (unmasked bits coins)
-    ∙ ap (xor b) (xor_self (unmasked bits coins))
-    ∙ xor-false b
-
--- a list is made of its elements
-each-get_or : (xs : List Bool) (n : ℕ) → length xs ≡ n → each (λ k. get_or xs k false) n ≡ xs
-each-get_or xs n long =
-    let made = length-each (λ k. get_or xs k false) n in
-    ext_get_or false (each (λ k. get_or xs k false) n) xs (made ∙ sym long) (λ k lt. get_or-each (λ k. get_or xs k false) n k false (omega arith))
-
-map-each : {A B : Type 0} (f : A → B) (g : ℕ → A) (n : ℕ) → map f (each g n) ≡ each (λ k. f (g k)) n
-map-each f g zero = refl
-map-each f g (suc n) = map-append f (each g n) (g n ∷ []) ∙ ap (λ l. l ++ f (g n) ∷ []) (map-each f g n)
 
 -- PACKED BYTES
 
@@ -152,8 +122,9 @@ module _ (d : ℕ) (key : List ℕ) (coins : List Bool) where
         (ap (map (bit j)) (map-each (λ (line : List ℕ). get_or line b 0) (split_line d key coins) (suc d))
         ∙ map-each (bit j) (λ k. get_or (split_line d key coins k) b 0) (suc d)
         ∙ each-same _ _ (suc d) (λ k below. bit-line k)
-        ∙ each-get_or (shared bits (bit j (get_or key b 0)) own) (suc d) (ap suc length-own))
-        ∙ shares-sum (bit j (get_or key b 0)) own
+        ∙ ap (each (λ k. get_or (shared bits (bit j (get_or key b 0)) own) k false)) (sym (ap suc length-own))
+        ∙ each-get_or (shared bits (bit j (get_or key b 0)) own) false)
+        ∙ shared-unmasks (bit j (get_or key b 0)) own
 
   column-bytes : (b : ℕ) → b < length key → All (λ (x : ℕ). x < 2 ^ 8) (column b)
   unfolding column

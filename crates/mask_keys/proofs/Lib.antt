@@ -2,7 +2,6 @@ pub mod Answering
 pub mod Cutting
 pub mod Deciding
 mod FileExamples
-pub mod Filling
 pub mod Finding
 pub mod Hiding
 pub mod Joining

@@ -13,7 +13,8 @@ use Rattle.mask_text.specs.Lines.{text_lines, bare}
 use Rattle.mask_text.proofs.Pieces.{lines_at, no_lines}
 use Rattle.mask_keys.specs.Lines.{line_length}
 use Rattle.mask_keys.specs.Files.{spelled, line_text, key_file}
-use Rattle.mask_keys.specs.Laws.{AreBytes, KeyFileReadsBack}
+use Rattle.mask_bits.specs.Reading.{AreBytes}
+use Rattle.mask_keys.specs.Laws.{KeyFileReadsBack}
 
 -- a byte that is no lower-case digit: the line feed and the carriage return are two
 record IsNoDigit (b : ℕ) : Type 0 where

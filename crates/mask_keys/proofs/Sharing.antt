@@ -10,15 +10,11 @@ use Rattle.mask_bits.proofs.Numbers.{length-lowest, get_or-lowest, number-lowest
 use Rattle.mask_circuit.specs.Ring.{bits}
 use Rattle.mask_circuit.specs.Sharing.{listed, shared, all_shared}
 use Rattle.mask_circuit.proofs.Places.{length-each, slice_get-each}
-use Rattle.mask_laws.proofs.Sharings.{all_shared-take}
+use Rattle.mask_laws.proofs.Sharings.{all_shared-take, length-all_shared}
 use Rattle.mask_keys.specs.Splitting.{packed, shares_at, split_line, split_lines}
 use Rattle.mask_keys.proofs.Cutting.{line_end}
 
 -- ALL SHARES
-
-pub length-all_shared : (d : ℕ) (plain coins : List Bool) → length (all_shared bits d plain coins) ≡ length plain
-length-all_shared d [] coins = refl
-length-all_shared d (b ∷ plain) coins = ap suc (length-all_shared d plain (drop d coins))
 
 get_or-all_shared : (d : ℕ) (plain coins : List Bool) (v : ℕ) → v < length plain →
     get_or (all_shared bits d plain coins) v [] ≡ shared bits (get_or plain v false) (take d (drop (v * d) coins))
@@ -44,13 +40,13 @@ drop-all_shared d (suc n) (b ∷ plain) coins =
 
 pub length-shares_at : (d k : ℕ) (plain coins : List Bool) → length (shares_at d k plain coins) ≡ length plain
 unfolding shares_at
-length-shares_at d k plain coins = length-map (all_shared bits d plain coins) (λ s. listed bits s k) ∙ length-all_shared d plain coins
+length-shares_at d k plain coins = length-map (all_shared bits d plain coins) (λ s. listed bits s k) ∙ length-all_shared bits d plain coins
 
 pub get_or-shares_at : (d k : ℕ) (plain coins : List Bool) (v : ℕ) → v < length plain →
     get_or (shares_at d k plain coins) v false ≡ get_or (shared bits (get_or plain v false) (take d (drop (v * d) coins))) k false
 unfolding shares_at
 get_or-shares_at d k plain coins v lt =
-    get_or-map (λ s. listed bits s k) (all_shared bits d plain coins) v [] false (omega (arith, length-all_shared d plain coins))
+    get_or-map (λ s. listed bits s k) (all_shared bits d plain coins) v [] false (omega (arith, length-all_shared bits d plain coins))
     ∙ ap (λ (s : List Bool). get_or s k false) (get_or-all_shared d plain coins v lt)
 
 -- eight bits, with just the coins that they take

@@ -32,7 +32,8 @@ pub record IsKeyFile (count : ℕ) (asked : KeyLength) (bytes : List ℕ) (lines
   pub long : IsAsked asked (line_length lines)
   pub many : length lines ≡ count
 
--- how many bytes each line has to spell: as many as asked, or as the digits of line 1 are for
+-- How many bytes each line of a key file has to spell: the length that is asked, or, where any will do, half as many bytes as
+-- line 1 has digits. Of no line it is 0.
 abbrev pub wanted : KeyLength → List (List ℕ) → ℕ
 wanted (Exactly n) lines = n
 wanted Any [] = 0

@@ -1,5 +1,5 @@
 -- What holds of every key file and of every split.
-use Rattle.std.specs.Prelude.{◌≡◌, ◌⊎◌, ℕ, suc, ◌<◌, ◌≤◌, ◌^◌, cond, nat_eq, Bool, Some, None, List, [], map, length, slice_index_or, All}
+use Rattle.std.specs.Prelude.{◌≡◌, ◌⊎◌, ℕ, suc, ◌≤◌, cond, nat_eq, Bool, Some, None, List, [], map, length, slice_index_or, All}
 use Rattle.std.specs.Cmp.Lexicographic.{pointwise}
 use Rattle.mask_circuit.specs.Probing.{sum_over_tapes}
 use Rattle.mask_keys.specs.declared.files.KeyLength.{KeyLength}
@@ -8,6 +8,7 @@ use Rattle.mask_keys.specs.declared.files.KeyError.{KeyError}
 use Rattle.mask_keys.specs.Lines.{AreKeyLines, line_length, joined}
 use Rattle.mask_keys.specs.Files.{IsKeyFile, fault, key_file}
 use Rattle.mask_keys.specs.Splitting.{split_lines, split_bits}
+use Rattle.mask_bits.specs.Reading.{AreBytes}
 
 -- KEY FILES
 
@@ -28,9 +29,6 @@ pub record IsFaulty (count : ℕ) (asked : KeyLength) (bytes : List ℕ) : Type 
 abbrev pub KeyFileOrFault : Type 0
 KeyFileOrFault = (count : ℕ) (asked : KeyLength) (bytes : List ℕ) → 1 ≤ count → count ≤ 8 →
     StandsForOne count asked bytes ⊎ IsFaulty count asked bytes
-
-abbrev pub AreBytes : List ℕ → Type 0
-AreBytes bytes = All (λ byte. byte < 2 ^ 8) bytes
 
 -- what is written of key lines stands for them, whether their length is asked or any, and isn't too long
 pub record ReadsBack (lines : List (List ℕ)) : Type 0 where

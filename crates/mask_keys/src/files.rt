@@ -10,7 +10,7 @@ ghost use Rattle.mask_keys.specs.Answers.{Reads, IsAnswerTo, failed_to_read};
 
 use crate::lines::{KeyBytes, KeyLines};
 use arrayvec::ArrayVec;
-use mask_io::{Failed, Source};
+use mask_io::{Source, read_full};
 use mask_text::{bare, next_line};
 
 /// How many bytes each key line has.
@@ -54,7 +54,7 @@ pub fn read_keys<K: Source>(
     ensures counts { K.faults keys.new ≡ faults_after (failed_to_read result) (K.faults keys.old) }
 {
     let mut file = [0; ROOM];
-    let came = match fill_from(keys, &mut file) {
+    let came = match read_full(keys, &mut file) {
         Ok(came) => came,
         Err(_) => return Err(KeyError::KeyFault),
     };
@@ -62,29 +62,6 @@ pub fn read_keys<K: Source>(
         return Err(KeyError::Long);
     }
     lines_in(&file[..came], lines, length)
-}
-
-// Reads into the buffer until it is full or nothing is left, and says how many bytes came.
-fn fill_from<K: Source>(keys: &mut K, buf: &mut [u8]) -> Result<usize, Failed>
-    ensures bound { IfOk result (λ n. n ≤ length buf.old) }
-    ensures taken { IfOk result (λ n. Consumes (K.left keys.old) (K.left keys.new) (take n buf.new)) }
-    ensures end { IfOk result (λ n. n < length buf.old → IsAtEnd (K.left keys.new)) }
-    ensures part { OnErr result ((bytes : List ℕ) × Consumes (K.left keys.old) (K.left keys.new) bytes
-        × (length bytes < length buf.old)) }
-    ensures counts { K.faults keys.new ≡ faults_after (is_err result) (K.faults keys.old) }
-{
-    let mut came = 0;
-    while came < buf.len() {
-        let count = match keys.read(&mut buf[came..]) {
-            Ok(count) => count,
-            Err(failed) => return Err(failed),
-        };
-        if count == 0 {
-            return Ok(came);
-        }
-        came += count;
-    }
-    Ok(came)
 }
 
 // The key lines that the bytes of a key file are, or its first fault.

@@ -1,10 +1,10 @@
 -- Sums of bits.
-use Rattle.std.proofs.Common.{◌≡◌, ℕ, zero, suc, ◌<◌, Bool, true, false, cond, ◌&&◌, ◌==◌, List, [], ◌∷◌, ◌++◌, fold, refl, ap, ap₂, sym, ◌∙◌, arith}
+use Rattle.std.proofs.Common.{◌≡◌, ℕ, zero, suc, ◌<◌, Bool, true, false, cond, ◌&&◌, ◌==◌, List, [], ◌∷◌, fold, refl, ap, ap₂, sym, ◌∙◌, arith}
 use Rattle.std.proofs.lemmas.List.Sums.{fold-append}
 use Rattle.mask_circuit.specs.Value.{xor}
 use Rattle.mask_circuit.specs.Ring.{bits}
 use Rattle.mask_circuit.specs.Wires.{each, row_sum}
-use Rattle.mask_circuit.specs.Sharing.{unmasked}
+use Rattle.mask_circuit.specs.Sharing.{shared, unmasked}
 use Rattle.mask_laws.proofs.Bits.{xor-false, xor_self, xor_comm, xor_assoc}
 
 -- with `xor_comm` and `xor_assoc` it sorts sums
@@ -39,6 +39,15 @@ total f (suc n) = xor (total f n) (f n)
 pub fold-xor : (a : Bool) (xs : List Bool) → fold xor a xs ≡ xor a (unmasked bits xs)
 fold-xor a [] = sym (xor-false a)
 fold-xor a (x ∷ xs) = fold-xor (xor a x) xs ∙ xor_assoc a x (unmasked bits xs) ∙ ap (xor a) (sym (fold-xor x xs))
+
+-- the sum of all shares of a bit is the bit
+pub shared-unmasks : (b : Bool) (coins : List Bool) → unmasked bits (shared bits b coins) ≡ b
+shared-unmasks b coins =
+    fold-xor (fold xor b coins) coins
+    ∙ ap (λ (x : Bool). xor x (unmasked bits coins)) (fold-xor b coins)
+    ∙ xor_assoc b (unmasked bits coins) (unmasked bits coins)
+    ∙ ap (xor b) (xor_self (unmasked bits coins))
+    ∙ xor-false b
 
 -- the sum of a list that is made by number
 pub unmasked-each : (f : ℕ → Bool) (n : ℕ) → unmasked bits (each f n) ≡ total f n

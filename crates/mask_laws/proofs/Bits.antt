@@ -1,5 +1,5 @@
 -- The sum of two bits, and what a test says.
-use Rattle.std.proofs.Common.{◌≡◌, Bool, true, false, ◌&&◌, ◌||◌, refl, sym, ap, ◌∙◌}
+use Rattle.std.proofs.Common.{◌≡◌, ℕ, zero, suc, ◌+◌, ◌%◌, ◌<◌, nat_eq, Bool, true, false, ◌&&◌, ◌||◌, refl, sym, ap, ◌∙◌, arith}
 use Rattle.mask_circuit.specs.Value.{xor}
 
 pub xor-false : (a : Bool) → xor a false ≡ a
@@ -74,3 +74,13 @@ both_twice true true = refl
 both_twice true false = refl
 both_twice false true = refl
 both_twice false false = refl
+
+-- two bits as numbers: their sum is odd where just one of them is 1
+pub xor_of_digits : (a b : ℕ) → a < 2 → b < 2 → nat_eq ((a + b) % 2) 1 ≡ xor (nat_eq a 1) (nat_eq b 1)
+xor_of_digits zero zero ha hb = refl
+xor_of_digits zero (suc zero) ha hb = refl
+xor_of_digits (suc zero) zero ha hb = refl
+xor_of_digits (suc zero) (suc zero) ha hb = refl
+xor_of_digits (suc (suc a)) b ha hb = absurd (omega arith)
+xor_of_digits zero (suc (suc b)) ha hb = absurd (omega arith)
+xor_of_digits (suc zero) (suc (suc b)) ha hb = absurd (omega arith)

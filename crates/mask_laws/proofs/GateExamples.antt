@@ -9,11 +9,8 @@ use Rattle.mask_circuit.specs.declared.gates.Wire.TheVariants.{Share, Left}
 use Rattle.mask_circuit.specs.Wires.{Shares, gate_wire}
 use Rattle.mask_circuit.specs.Need.{ShareSet}
 use Rattle.mask_circuit.specs.Shift.{gate_mask, add_bits}
+use Rattle.mask_circuit.specs.Sharing.{all_listed}
 use Rattle.mask_laws.specs.Names.{pair_number, pair_count}
-
--- the shares of each value, from a list of lists
-shared : List (List Bool) → ℕ → Shares Bool
-shared bss u i = slice_index_or (slice_index_or bss u []) i false
 
 -- a set of shares, from a list
 among : List Bool → ShareSet
@@ -26,7 +23,7 @@ on_second n g Q O s s' r ws = map (gate_wire bits n g s' (add_bits r (gate_mask 
 -- A product on three shares with v of the pair (0, 1) probed and output share 2 demanded, from operands (1, 0, 0) and
 -- (0, 1, 0) to zeros: both wires carry the same, as they wouldn't with the fresh bits left alone.
 operands : ℕ → Shares Bool
-operands = shared ((true ∷ false ∷ false ∷ []) ∷ (false ∷ true ∷ false ∷ []) ∷ [])
+operands = all_listed bits ((true ∷ false ∷ false ∷ []) ∷ (false ∷ true ∷ false ∷ []) ∷ [])
 
 fresh_zeros : List Bool
 fresh_zeros = false ∷ false ∷ false ∷ []
@@ -35,26 +32,25 @@ watched : List Wire
 watched = Left 0 1 ∷ Share 2 ∷ []
 
 product_first : map (gate_wire bits 3 (And 0 1) operands fresh_zeros) watched ≡ true ∷ false ∷ []
-unfolding shared operands fresh_zeros watched
+unfolding operands fresh_zeros watched
 product_first = refl
 
-product_second : on_second 3 (And 0 1) (Left 0 1 ∷ []) (among (false ∷ false ∷ true ∷ [])) operands (shared []) fresh_zeros watched ≡ true ∷ false ∷ []
-unfolding on_second shared among operands fresh_zeros watched
+product_second : on_second 3 (And 0 1) (Left 0 1 ∷ []) (among (false ∷ false ∷ true ∷ [])) operands (all_listed bits []) fresh_zeros watched ≡ true ∷ false ∷ []
+unfolding on_second among operands fresh_zeros watched
 product_second = refl
 
-product_unmasked : map (gate_wire bits 3 (And 0 1) (shared []) fresh_zeros) watched ≡ false ∷ false ∷ []
-unfolding shared fresh_zeros watched
+product_unmasked : map (gate_wire bits 3 (And 0 1) (all_listed bits []) fresh_zeros) watched ≡ false ∷ false ∷ []
+unfolding fresh_zeros watched
 product_unmasked = refl
 
 -- A refresh of two shares with both output shares demanded, which are as many as there are shares: from (0, 0) to
 -- (1, 0) their sum changes, so no mask can keep both.
-refresh_first : map (gate_wire bits 2 (Ref 0) (shared []) (false ∷ [])) (Share 0 ∷ Share 1 ∷ []) ≡ false ∷ false ∷ []
-unfolding shared
+refresh_first : map (gate_wire bits 2 (Ref 0) (all_listed bits []) (false ∷ [])) (Share 0 ∷ Share 1 ∷ []) ≡ false ∷ false ∷ []
 refresh_first = refl
 
-refresh_second : on_second 2 (Ref 0) [] (among (true ∷ true ∷ [])) (shared []) (shared ((true ∷ false ∷ []) ∷ [])) (false ∷ []) (Share 0 ∷ Share 1 ∷ [])
+refresh_second : on_second 2 (Ref 0) [] (among (true ∷ true ∷ [])) (all_listed bits []) (all_listed bits ((true ∷ false ∷ []) ∷ [])) (false ∷ []) (Share 0 ∷ Share 1 ∷ [])
     ≡ true ∷ false ∷ []
-unfolding on_second shared among
+unfolding on_second among
 refresh_second = refl
 
 -- Of four shares the pair (1, 3) is the fifth of six.

@@ -16,11 +16,12 @@ use Rattle.mask_laws.specs.Privacy.{AcceptedIsPrivate, AcceptedCallIsPrivate, St
 use Rattle.mask_laws.proofs.Gates.{gate_keeps}
 use Rattle.mask_laws.proofs.RunNeeds.{length-places, places_within-below}
 use Rattle.mask_laws.proofs.Running.{run_needs, same_at, Contains-filter, length-wires}
-use Rattle.mask_laws.proofs.Seen.{map-same, shift_keeps, shift_reorders}
+use Rattle.mask_laws.proofs.Seen.{shift_keeps, shift_reorders}
 use Rattle.mask_laws.proofs.Sharings.{sharing-front, sum_over_sharings-same}
 use Rattle.mask_laws.proofs.Shifts.{drop_front}
 use Rattle.mask_laws.proofs.Simulation.{accepted_fits, accepted_needs_few}
 use Rattle.mask_laws.proofs.Tapes.{sum_over_tapes-same, sum_over_tapes-add}
+use Rattle.mask_laws.proofs.Members.{map-same_in}
 
 -- CIRCUITS
 
@@ -45,7 +46,7 @@ places_simulated c N P two formed accepted few x y agree v =
     let kept : (r : List Bool) → length r ≡ draws c N → seen c N x r Q ≡ seen c N y (shift c N x y Q r) Q
     = λ r long. sym (shift_keeps gate_keeps c N x y Q r two formed.gates (places_within-below (wire_count c N) P)
     (accepted_fits c N Q formed.gates accepted (omega arith)) agree long).0 in
-    sum_over_tapes-same (draws c N) _ _ (λ r long. ap hit (map-same _ _ P (place_same c N x y r (shift c N x y Q r) P (kept r long))))
+    sum_over_tapes-same (draws c N) _ _ (λ r long. ap hit (map-same_in _ _ P (place_same c N x y r (shift c N x y Q r) P (kept r long))))
     ∙ shift_reorders c N x y Q (λ r. hit (seen c N y r P))
 
 -- So an accepted circuit is private: the need leaves out a share of each input.

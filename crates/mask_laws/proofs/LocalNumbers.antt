@@ -72,7 +72,7 @@ unfolding products of_pair rows
 product_row_at n i m hi hm =
     back_at (products n ++ flat_map of_pair (pairs n)) (rows n) (i * (n - 1) + m) _ _ (rw (length-front n) (omega arith)) (row_at n i m hi hm)
 
-length-product_names : (n : ℕ) → length (product_names n) ≡ n * n + 3 * pair_count n + n * (n - 1)
+pub length-product_names : (n : ℕ) → length (product_names n) ≡ n * n + 3 * pair_count n + n * (n - 1)
 unfolding products of_pair rows
 length-product_names n =
     rw (length-append (products n ++ flat_map of_pair (pairs n)) (rows n), length-front n, length-rows n) refl

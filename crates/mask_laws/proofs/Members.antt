@@ -1,5 +1,5 @@
 -- What is in a list that is made by number, joined from pieces or mapped to pieces.
-use Rattle.std.proofs.Common.{◌≡◌, ℕ, zero, suc, ◌<◌, ◌⊎◌, inl, inr, List, [], ◌∷◌, ◌++◌, length, Contains, flat_map, slice_index_or, refl, sym, subst, arith}
+use Rattle.std.proofs.Common.{◌≡◌, ℕ, zero, suc, ◌<◌, ◌⊎◌, inl, inr, List, [], ◌∷◌, ◌++◌, length, map, Contains, flat_map, slice_index_or, refl, sym, subst, arith}
 use Rattle.std.proofs.lemmas.List.Elements.{Contains-push, Contains-push_cases, Contains-append_left, Contains-append_right, Contains-append_cases}
 use Rattle.mask_circuit.specs.Wires.{each, joined}
 use Rattle.mask_circuit.proofs.Places.{below_cases}
@@ -94,3 +94,9 @@ holds_of_three P a b c x pa pb pc h =
         | inr h'' ↦ elim (Contains-cons_cases c [] x h'') [ inl e ↦ subst P e pc | inr z ↦ absurd (none_in_nil x z) ]
       ]
     ]
+
+-- two functions that agree at the elements of a list make the same list
+pub map-same_in : {A B : Type 0} (f g : A → B) (xs : List A) → ((x : A) → Contains xs x → f x ≡ g x) → map f xs ≡ map g xs
+map-same_in f g [] same = refl
+map-same_in f g (x ∷ xs) same =
+    rw (same x (Contains-first x xs), map-same_in f g xs (λ y h. same y (Contains-later x xs y h))) refl

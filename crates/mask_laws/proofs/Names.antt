@@ -33,10 +33,10 @@ Contains-pairs n i j h =
 -- COLUMNS OF A ROW
 
 -- the other columns of row i are below n, and none is i ..
-other-below : (n i m : ℕ) → i < n → m < pred n → other i m < n
+pub other-below : (n i m : ℕ) → i < n → m < pred n → other i m < n
 other-below n i m hi hm = elim (cases_lt m i) [ inl l ↦ rw (lt-ltb m i l) (omega arith) | inr g ↦ rw (le-ltb m i g) (omega arith) ]
 
-other-apart : (i m : ℕ) → i ≢ other i m
+pub other-apart : (i m : ℕ) → i ≢ other i m
 other-apart i m = elim (cases_lt m i) [ inl l ↦ rw (lt-ltb m i l) (omega arith) | inr g ↦ rw (le-ltb m i g) (omega arith) ]
 
 -- .. and each column but i is among them

@@ -1,51 +1,46 @@
 -- A gate on n shares reads the shares below n of its operands alone: where these are the same, so are its output shares
 -- and, between two sides, its mask.
-use Rattle.std.proofs.Common.{◌≡◌, ℕ, zero, suc, pred, ◌<◌, Bool, true, false, cond, not, ◌&&◌, ◌==◌, List, [], ◌∷◌, map, Contains, refl, ap, ap₂, arith}
+use Rattle.std.proofs.Common.{◌≡◌, ℕ, zero, suc, pred, ◌<◌, Bool, false, cond, not, ◌&&◌, ◌==◌, List, refl, ap, ap₂, arith}
 use Rattle.mask_circuit.specs.declared.gates.Gate.{Gate}
 use Rattle.mask_circuit.specs.declared.gates.Gate.TheVariants.{Zero, One, Xor, Not, And, Ref}
 use Rattle.mask_circuit.specs.Netlist.{OperandsBelow}
 use Rattle.mask_circuit.specs.Value.{xor}
-use Rattle.mask_circuit.specs.Ring.{bits}
+use Rattle.mask_circuit.specs.Ring.{Ring, bits}
 use Rattle.mask_circuit.specs.declared.gates.Wire.{Wire}
 use Rattle.mask_circuit.specs.declared.gates.Wire.TheVariants.{Share, Fresh, Left}
-use Rattle.mask_circuit.specs.Wires.{Shares, pairs, row_sum, fresh_of, fresh_between, cross, product_wire, gate_wire}
+use Rattle.mask_circuit.specs.Wires.{Shares, pairs, row_sum, fresh_of, fresh_between, cross, gate_wire}
 use Rattle.mask_circuit.specs.Need.{ShareSet, product_rows, refresh_need}
 use Rattle.mask_circuit.specs.Shift.{Sides, product_change, is_probed, wire_between, least, partner, product_base, cross_change, share_change, product_mask, refresh_mask, sides_of, gate_mask}
-use Rattle.mask_laws.proofs.Members.{Contains-first, Contains-later}
+pub use Rattle.mask_laws.specs.Sharing.{SameShares}
 use Rattle.mask_laws.proofs.Names.{pairs_below}
 use Rattle.mask_laws.proofs.Sums.{row_sum-same}
-
--- the same at each element of a list
-pub map-same_in : {A B : Type 0} (f g : A → B) (xs : List A) → ((x : A) → Contains xs x → f x ≡ g x) → map f xs ≡ map g xs
-map-same_in f g [] same = refl
-map-same_in f g (x ∷ xs) same =
-    rw (same x (Contains-first x xs), map-same_in f g xs (λ y h. same y (Contains-later x xs y h))) refl
-
--- the shares below n of the values below m are the same
-abbrev pub SameShares : ℕ → ℕ → (ℕ → Shares Bool) → (ℕ → Shares Bool) → Type 0
-SameShares n m s s' = (u i : ℕ) → u < m → i < n → s u i ≡ s' u i
+use Rattle.mask_laws.proofs.Members.{map-same_in}
 
 -- OUTPUT SHARES
 
-module _ (n : ℕ) (a a' b b' : Shares Bool) (r : ℕ → ℕ → Bool) (left : (i : ℕ) → i < n → a i ≡ a' i) (right : (i : ℕ) → i < n → b i ≡ b' i) where
-  cross-same : (i j : ℕ) → i < n → j < n → cross bits a b r i j ≡ cross bits a' b' r i j
+module _ {X : Type 0} (R : Ring X) (n : ℕ) (a a' b b' : Shares X) (r : ℕ → ℕ → X) (left : (i : ℕ) → i < n → a i ≡ a' i) (right : (i : ℕ) → i < n → b i ≡ b' i) where
+  cross-same : (i j : ℕ) → i < n → j < n → cross R a b r i j ≡ cross R a' b' r i j
   cross-same i j hi hj = rw (left i hi, left j hj, right i hi, right j hj) refl
 
-  product_share-same : (i : ℕ) → i < n → product_wire bits n a b r (Share i) ≡ product_wire bits n a' b' r (Share i)
-  product_share-same i hi =
-      row_sum-same (a i && b i) (a' i && b' i) (cross bits a b r i) (cross bits a' b' r i) i (pred n) (rw (left i hi, right i hi) refl)
-      (λ j le ne. cross-same i j hi (omega arith))
+  -- the sums of a product's rows
+  pub row-same : (i k : ℕ) → i < n → k < n → row_sum R (R.mul (a i) (b i)) (cross R a b r i) i k ≡ row_sum R (R.mul (a' i) (b' i)) (cross R a' b' r i) i k
+  row-same i k hi hk = row_sum-same R _ _ _ _ i k (rw (left i hi, right i hi) refl) (λ j le ne. cross-same i j hi (omega arith))
 
+pub share-same : {X : Type 0} (R : Ring X) (N m : ℕ) (g : Gate) (s s' : ℕ → Shares X) (r : List X) (i : ℕ) → OperandsBelow m g → SameShares N m s s' → i < N →
+    gate_wire R N g s r (Share i) ≡ gate_wire R N g s' r (Share i)
+share-same R N m Zero s s' r i below same hi = refl
+share-same R N m One s s' r i below same hi = refl
+share-same R N m (Xor u v) s s' r i below same hi = ap₂ R.add (same u i below.0 hi) (same v i below.1 hi)
+share-same {X} R N m (Not u) s s' r i below same hi = ap (λ (x : X). cond (i == 0) (R.add x R.unit) x) (same u i below hi)
+share-same R N m (And u v) s s' r i below same hi =
+    row-same R N (s u) (s' u) (s v) (s' v) (fresh_of R (pairs N) r) (λ k lt. same u k below.0 lt) (λ k lt. same v k below.1 lt) i (pred N) hi (omega arith)
+share-same {X} R N m (Ref u) s s' r i below same hi =
+    ap (λ (x : X). row_sum R x (fresh_between (fresh_of R (pairs N) r) i) i (pred N)) (same u i below hi)
+
+-- on bits
 pub gate_share-same : (N m : ℕ) (g : Gate) (s s' : ℕ → Shares Bool) (r : List Bool) (i : ℕ) → OperandsBelow m g → SameShares N m s s' → i < N →
     gate_wire bits N g s r (Share i) ≡ gate_wire bits N g s' r (Share i)
-gate_share-same N m Zero s s' r i below same hi = refl
-gate_share-same N m One s s' r i below same hi = refl
-gate_share-same N m (Xor u v) s s' r i below same hi = ap₂ xor (same u i below.0 hi) (same v i below.1 hi)
-gate_share-same N m (Not u) s s' r i below same hi = ap (λ (b : Bool). cond (i == 0) (xor b true) b) (same u i below hi)
-gate_share-same N m (And u v) s s' r i below same hi =
-    product_share-same N (s u) (s' u) (s v) (s' v) (fresh_of bits (pairs N) r) (λ k lt. same u k below.0 lt) (λ k lt. same v k below.1 lt) i hi
-gate_share-same N m (Ref u) s s' r i below same hi =
-    ap (λ (b : Bool). row_sum bits b (fresh_between (fresh_of bits (pairs N) r) i) i (pred N)) (same u i below hi)
+gate_share-same = share-same bits
 
 -- MASKS
 
@@ -70,7 +65,7 @@ module _ (n : ℕ) (Q : List Wire) (O O' : ShareSet) (outputs : (i : ℕ) → i 
 
     share_change-same : (i : ℕ) → i < n → share_change n a b (product_base Q a b) i ≡ share_change n a' b' (product_base Q a' b') i
     share_change-same i hi =
-        row_sum-same _ _ _ _ i (pred n) (changes i i hi hi) (λ j le ne. cross_change-same i j hi (omega arith))
+        row_sum-same bits _ _ _ _ i (pred n) (changes i i hi hi) (λ j le ne. cross_change-same i j hi (omega arith))
 
     turned-same : (i : ℕ) → i < n →
         (O i && not (product_rows Q i) && share_change n a b (product_base Q a b) i)

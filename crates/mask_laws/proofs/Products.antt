@@ -91,7 +91,7 @@ row-xor : (n : ℕ) (a b : Sides) (r r' m : ℕ → ℕ → Bool) → ((i j : �
     row_sum bits (a.two i && b.two i) (cross bits a.two b.two r' i) i k
     ≡ xor (row_sum bits (a.one i && b.one i) (cross bits a.one b.one r i) i k) (row_sum bits (product_change a b i i) (cross_change a b m i) i k)
 row-xor n a b r r' m differ i k hi hk =
-    row_sum-same (a.two i && b.two i) (xor (a.one i && b.one i) (product_change a b i i)) (cross bits a.two b.two r' i)
+    row_sum-same bits (a.two i && b.two i) (xor (a.one i && b.one i) (product_change a b i i)) (cross bits a.two b.two r' i)
     (λ j. xor (cross bits a.one b.one r i j) (cross_change a b m i j)) i k
     (term-xor a b i i) (λ j le ne. cross-xor n a b r r' m differ i j hi (omega arith) ne)
     ∙ row_sum-xor (a.one i && b.one i) (product_change a b i i) (cross bits a.one b.one r i) (cross_change a b m i) i k
@@ -208,7 +208,7 @@ module _ (n : ℕ) (Q : List Wire) (O : ShareSet) (a b : Sides) (r r' : ℕ → 
       go : (p : ℕ) × (partner n Left Q T O i ≡ Some p) → row_sum bits (product_change a b i i) (cross_change a b mask i) i (pred n) ≡ false
       go (p, found) =
           let is = partner-Some n Left Q T O i p found in
-          row_sum-same (product_change a b i i) (product_change a b i i) (cross_change a b mask i)
+          row_sum-same bits (product_change a b i i) (product_change a b i i) (cross_change a b mask i)
           (λ j. xor (cross_change a b base i j) (change i && p == j)) i (pred n) refl
           (λ j le ne. rw (
             cross_change-mask i j,

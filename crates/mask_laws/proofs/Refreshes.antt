@@ -73,7 +73,7 @@ row-xor : (n : ℕ) (a : Sides) (r r' m : ℕ → ℕ → Bool) → ((i j : ℕ)
     row_sum bits (a.two i) (fresh_between r' i) i k
     ≡ xor (row_sum bits (a.one i) (fresh_between r i) i k) (row_sum bits (differs a i) (fresh_between m i) i k)
 row-xor n a r r' m differ i k hi hk =
-    row_sum-same (a.two i) (xor (a.one i) (differs a i)) (fresh_between r' i) (λ j. xor (fresh_between r i j) (fresh_between m i j)) i k
+    row_sum-same bits (a.two i) (xor (a.one i) (differs a i)) (fresh_between r' i) (λ j. xor (fresh_between r i j) (fresh_between m i j)) i k
     (xor-change (a.one i) (a.two i)) (λ j le ne. fresh_between-xor n r r' m differ i j hi (omega arith) ne)
     ∙ row_sum-xor (a.one i) (differs a i) (fresh_between r i) (fresh_between m i) i k
 
@@ -135,7 +135,7 @@ module _ (n : ℕ) (Q : List Wire) (O : ShareSet) (a : Sides) (r r' : ℕ → �
       go : (p : ℕ) × (partner n Fresh Q T O i ≡ Some p) → row_sum bits (differs a i) (fresh_between mask i) i (pred n) ≡ false
       go (p, found) =
           let is = partner-Some n Fresh Q T O i p found in
-          row_sum-same (differs a i) (differs a i) (fresh_between mask i) (λ j. differs a i && p == j) i (pred n) refl
+          row_sum-same bits (differs a i) (differs a i) (fresh_between mask i) (λ j. differs a i && p == j) i (pred n) refl
           (λ j le ne. rw (
             fresh_between-mask i j,
             flip-to_demanded n Fresh Q T O (differs a) i j demanded,

@@ -7,6 +7,7 @@ use Rattle.mask_circuit.specs.declared.gates.Wire.{Wire}
 use Rattle.mask_circuit.specs.declared.gates.Wire.TheVariants.{Fresh, Left}
 use Rattle.mask_circuit.specs.Need.{ShareSet, product_rows, refresh_need}
 use Rattle.mask_circuit.specs.Shift.{Sides, product_change, is_some_of, partner, product_base, cross_change, share_change}
+use Rattle.mask_circuit.specs.Ring.{bits}
 use Rattle.mask_laws.specs.Masks.{Mask, is_pair_of, row_by_row, MasksAtOnce}
 use Rattle.mask_laws.proofs.Bits.{xor-false, xor_comm, xor_assoc, and-true, or-false}
 use Rattle.mask_laws.proofs.Flips.{flip, flip-to_demanded}
@@ -129,7 +130,7 @@ share_change-own : (n : ℕ) (Q : List Wire) (a b : Sides) (mask : Mask) (k : �
     ((j : ℕ) → j < n → j ≢ k → (mask k j ≡ product_base Q a b k j) × (mask j k ≡ product_base Q a b j k)) →
     share_change n a b mask k ≡ share_change n a b (product_base Q a b) k
 share_change-own n Q a b mask k lt same =
-    row_sum-same (product_change a b k k) (product_change a b k k) (cross_change a b mask k) (cross_change a b (product_base Q a b) k) k (pred n) refl
+    row_sum-same bits (product_change a b k k) (product_change a b k k) (cross_change a b mask k) (cross_change a b (product_base Q a b) k) k (pred n) refl
     (λ j le ne. let kept = same j (omega arith) (λ e. ne (sym e)) in
     ap₂ (λ (m m' : Bool). cond (nat_lt k j) m (xor (xor m' (product_change a b j k)) (product_change a b k j))) kept.0 kept.1)
 

@@ -1,25 +1,22 @@
 -- The definitions of a run at a worked example, computed.
-use Rattle.std.proofs.Common.{◌≡◌, ℕ, zero, suc, ◌<◌, ◌≤◌, inl, inr, Bool, true, false, List, [], ◌∷◌, Some, None, refl, map, arith}
+use Rattle.std.proofs.Common.{◌≡◌, ℕ, zero, suc, ◌<◌, ◌≤◌, inl, inr, true, false, List, [], ◌∷◌, Some, None, refl, map, arith}
 use Rattle.std.specs.declared.option.Option.{Option}
 use Rattle.std.proofs.lemmas.List.Elements.{All-nil, All-cons}
-use Rattle.std.specs.List.{slice_index_or}
 use Rattle.mask_circuit.specs.declared.gates.Gate.{Gate}
 use Rattle.mask_circuit.specs.declared.gates.Gate.TheVariants.{Ref}
 use Rattle.mask_circuit.specs.Netlist.{Netlist, IsWellFormed, value_count}
-use Rattle.mask_circuit.specs.Wires.{Shares, each}
+use Rattle.mask_circuit.specs.Wires.{each}
 use Rattle.mask_circuit.specs.Acceptance.{gate_at, Uses, IsAccepted, IsFenced}
 use Rattle.mask_laws.specs.Clashes.{reach, clash}
 use Rattle.mask_laws.specs.Refutations.{refreshed_product}
 use Rattle.mask_laws.specs.Runs.{Call, Variable, Output, origin_at, IsPublic, IsThere, IsStrongRun, run_draws, run_seen, run_hits, private_run_hits, run_need}
 use Rattle.mask_laws.proofs.Clashing.{clash_decides}
 use Rattle.mask_circuit.proofs.GateAt.{gate_at_within}
-
--- the shares of each variable, from a list of lists
-listed : List (List Bool) → ℕ → Shares Bool
-listed bss u i = slice_index_or (slice_index_or bss u []) i false
+use Rattle.mask_circuit.specs.Sharing.{all_listed}
+use Rattle.mask_circuit.specs.Ring.{bits}
 
 -- no gate past the last one uses a value
-past_gates : (c : Netlist) (v u : ℕ) → value_count c ≤ v → Uses u (gate_at c v) → ⊥
+pub past_gates : (c : Netlist) (v u : ℕ) → value_count c ≤ v → Uses u (gate_at c v) → ⊥
 past_gates c v u past h = go (gate_at c v) refl h
   where
     go : (o : Option Gate) → gate_at c v ≡ o → Uses u o → ⊥
@@ -42,9 +39,9 @@ unfolding example refreshed multiplied
 example_draws = refl
 
 -- From (1, 0) and (1, 1) with the tape 1, 0, 0: the input shares of both calls, and the product's last shares.
-example_seen : run_seen example 2 (listed ((true ∷ false ∷ []) ∷ (true ∷ true ∷ []) ∷ [])) (true ∷ false ∷ false ∷ []) (0 ∷ 1 ∷ 5 ∷ 6 ∷ 7 ∷ 8 ∷ 19 ∷ 20 ∷ [])
+example_seen : run_seen example 2 (all_listed bits ((true ∷ false ∷ []) ∷ (true ∷ true ∷ []) ∷ [])) (true ∷ false ∷ false ∷ []) (0 ∷ 1 ∷ 5 ∷ 6 ∷ 7 ∷ 8 ∷ 19 ∷ 20 ∷ [])
     ≡ true ∷ false ∷ false ∷ true ∷ true ∷ true ∷ false ∷ false ∷ []
-unfolding example refreshed multiplied listed
+unfolding example refreshed multiplied
 example_seen = refl
 
 -- The product a_0 · b_1 of the second call needs share 1 of variable 1, and of variable 0 nothing, for its refresh hides it ..
@@ -53,10 +50,10 @@ unfolding example refreshed multiplied
 example_need = refl
 
 -- .. so all tapes show it equally often where that share is the same.
-example_hits : map (λ bss. run_hits example 2 (listed bss) (10 ∷ []) (true ∷ []))
+example_hits : map (λ bss. run_hits example 2 (all_listed bits bss) (10 ∷ []) (true ∷ []))
     (((true ∷ false ∷ []) ∷ (true ∷ true ∷ []) ∷ []) ∷ ((true ∷ true ∷ []) ∷ (false ∷ true ∷ []) ∷ []) ∷ ((true ∷ false ∷ []) ∷ (true ∷ false ∷ []) ∷ []) ∷ [])
     ≡ 4 ∷ 4 ∷ 0 ∷ []
-unfolding example refreshed multiplied listed
+unfolding example refreshed multiplied
 example_hits = refl
 
 -- Over all sharings of the variables as many show it, whatever their bits are: of 4 sharings with 8 tapes each.

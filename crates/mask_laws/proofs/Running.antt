@@ -15,12 +15,12 @@ use Rattle.mask_circuit.specs.Need.{need, probes_at}
 use Rattle.mask_circuit.specs.Acceptance.{output_at}
 use Rattle.mask_circuit.specs.Shift.{shift}
 use Rattle.mask_laws.specs.Runs.{Origin, Public, Variable, Output, Call, origin_at, Outputs, no_outputs, origin_shares, call_inputs, call_draws, call_wires, evaluation, evaluation_wires, with_outputs, evaluations_from, run_wires, run_draws, run_seen, IsThere, IsStrongCall, AreStrongCalls, places_within, places_behind, demanded, demanded_by, run_need, RunNeed}
-use Rattle.mask_laws.proofs.Members.{none_in_nil, Contains-cons_cases, Contains-first, Contains-later}
+use Rattle.mask_laws.proofs.Members.{none_in_nil, Contains-cons_cases, Contains-first, Contains-later, map-same_in}
 use Rattle.mask_laws.proofs.OutputShares.{Contains-map, output_names, output_names-all}
 use Rattle.mask_laws.proofs.RunNeeds.{asked_of, call_probes, call_allowed, demanded_by-all, demanded_small, length-places}
 use Rattle.mask_laws.proofs.Gates.{gate_keeps}
 use Rattle.mask_laws.proofs.Probes.{probed_shares-from_Contains, need_from-probed}
-use Rattle.mask_laws.proofs.Seen.{map-same, shift_keeps, shift_reorders}
+use Rattle.mask_laws.proofs.Seen.{shift_keeps, shift_reorders}
 use Rattle.mask_laws.proofs.Shifts.{take_front, drop_front, length-shift_from}
 use Rattle.mask_laws.proofs.Strengthening.{strong_masked, need_with_outputs, asked_names, asked_within, asked_fits}
 use Rattle.mask_laws.proofs.Tapes.{sum_over_tapes-same, sum_over_tapes-add}
@@ -275,7 +275,7 @@ run_needs calls N P two are few = (
       let hit = λ (bs : List Bool). cond (same_bits bs v) 1 0 in
       let shifted = λ (r : List Bool). shift_run calls N 0 x y no_outputs no_outputs P r in
       sum_over_tapes-same (run_draws calls N) _ _ (λ r long. ap hit
-      (map-same (λ p. slice_index_or (run_wires calls N x r) p false) (λ p. slice_index_or (run_wires calls N y (shifted r)) p false) P
+      (map-same_in (λ p. slice_index_or (run_wires calls N x r) p false) (λ p. slice_index_or (run_wires calls N y (shifted r)) p false) P
       (λ p h. shift_run-keeps calls N 0 P [] x y no_outputs no_outputs r two are few refl (start_agree calls N P x y agree) long p h)))
       ∙ sum_over_tapes-shift_run calls N 0 x y no_outputs no_outputs P (λ r. hit (run_seen calls N y r P)),
 )

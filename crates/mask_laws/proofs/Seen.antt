@@ -15,10 +15,10 @@ use Rattle.mask_laws.specs.Gadgets.{GateKeeps, MaskIsSymmetric}
 use Rattle.mask_laws.specs.Circuits.{Fits, FittingIsSimulated, ShiftKeeps, ShiftReorders, ShiftReturns}
 use Rattle.mask_laws.proofs.Tapes.{sum_over_tapes-same}
 use Rattle.mask_laws.proofs.Probes.{probed_shares-from_Contains, need_from-probed}
-use Rattle.mask_laws.proofs.Members.{Contains-first, Contains-later}
 use Rattle.mask_laws.proofs.Shifts.{sum_over_tapes-shift_from, length-shift_from, shift_from-back}
 use Rattle.mask_laws.proofs.Keeping.{CarriedAgree, keeps_from}
 use Rattle.mask_laws.proofs.CircuitNames.{IsNamedFrom, names-within, AreNamed-from_names}
+use Rattle.mask_laws.proofs.Members.{map-same_in}
 
 -- the shift by the names of probes
 abbrev pub shift_by : Netlist → ℕ → (ℕ → Shares Bool) → (ℕ → Shares Bool) → List CircuitWire → List Bool → List Bool
@@ -51,17 +51,12 @@ probe-same c N P t t' two named agree v w k = go w k (All-contains (IsNamedFrom 
     go (Share i) k h = agree.shares v i h.1 h.2 (need_from-probed P c.gates c.inputs v i (probed_shares-from_Contains P v i k))
     go w k h = agree.inner v w h.1 k refl
 
--- two functions that agree at the elements of a list make the same list
-pub map-same : {A B : Type 0} (f g : A → B) (xs : List A) → ((a : A) → Contains xs a → f a ≡ g a) → map f xs ≡ map g xs
-map-same f g [] h = refl
-map-same {B} f g (x ∷ xs) h = ap₂ (λ (b : B) (bs : List B). b ∷ bs) (h x (Contains-first x xs)) (map-same f g xs (λ a k. h a (Contains-later x xs a k)))
-
 -- so the probes see the same
 pub seen_by-shift_by : GateKeeps → (c : Netlist) (N : ℕ) (P : List CircuitWire) (x y : ℕ → Shares Bool) (r : List Bool) → 2 ≤ N → AreGates c.inputs c.gates →
     All (Contains (names c N)) P → Fits c N P → AgreeOn c N (need_from P c.gates c.inputs) x y → length r ≡ draws c N →
     seen_by c N x r P ≡ seen_by c N y (shift_by c N x y P r) P
 seen_by-shift_by keeps c N P x y r two are named fits agree long =
-    map-same (λ p. expand bits c N x r p.0 p.1) (λ p. expand bits c N y (shift_by c N x y P r) p.0 p.1) P
+    map-same_in (λ p. expand bits c N x r p.0 p.1) (λ p. expand bits c N y (shift_by c N x y P r) p.0 p.1) P
     (λ p k. probe-same c N P (expand bits c N x r) (expand bits c N y (shift_by c N x y P r)) two named
     (carried_agree keeps c N P x y r two are named fits agree long) p.0 p.1 k)
 

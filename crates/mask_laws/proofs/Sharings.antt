@@ -158,6 +158,11 @@ sum_over_sharings-same (suc d) x y I f some same few depends =
 -- ONE TAPE
 
 -- just d coins are used for each value
+-- as many lists of shares as values
+pub length-all_shared : {X : Type 0} (R : Ring X) (d : ℕ) (xs coins : List X) → length (all_shared R d xs coins) ≡ length xs
+length-all_shared R d [] coins = refl
+length-all_shared R d (x ∷ xs) coins = ap suc (length-all_shared R d xs (drop d coins))
+
 pub all_shared-take : {X : Type 0} (R : Ring X) (d : ℕ) (xs coins : List X) → all_shared R d xs (take (d * length xs) coins) ≡ all_shared R d xs coins
 all_shared-take R d [] coins = refl
 all_shared-take {X} R d (x ∷ xs) coins =

@@ -2,15 +2,15 @@
 use Rattle.std.proofs.Common.{◌≡◌, ◌≢◌, ℕ, zero, suc, ◌<◌, ◌≤◌, Bool, true, false, cond, ◌&&◌, ◌==◌, ◌⊎◌, inl, inr, refl, sym, ap, ◌∙◌, arith, eq-eqb, ne_eqb, eqb-true}
 use Rattle.std.proofs.lemmas.Bool.{cases_lt, eqb-false, and_right}
 use Rattle.mask_circuit.specs.Value.{xor}
-use Rattle.mask_circuit.specs.Ring.{bits}
+use Rattle.mask_circuit.specs.Ring.{Ring, bits}
 use Rattle.mask_circuit.specs.Wires.{row_sum}
 use Rattle.mask_laws.proofs.Bits.{xor-false, xor-xor, and-true}
 
 -- one step of a sum, where nothing is added `here`: from equal sums by equal terms ..
-step_same : (here sum sum' term term' : Bool) → sum ≡ sum' → (here ≡ false → term ≡ term') →
-    cond here sum (xor sum term) ≡ cond here sum' (xor sum' term')
-step_same true sum sum' term term' e same = e
-step_same false sum sum' term term' e same = rw (e, same refl) refl
+step_same : {X : Type 0} (R : Ring X) (here : Bool) (sum sum' term term' : X) → sum ≡ sum' → (here ≡ false → term ≡ term') →
+    cond here sum (R.add sum term) ≡ cond here sum' (R.add sum' term')
+step_same R true sum sum' term term' e same = e
+step_same R false sum sum' term term' e same = rw (e, same refl) refl
 
 -- .. from a sum of two sums by the sum of their terms ..
 step_xor : (here both one two term term' : Bool) → both ≡ xor one two →
@@ -24,13 +24,13 @@ step_none true sum first term e none = e
 step_none false sum first term e none = rw (e, none refl) (xor-false first)
 
 -- the same first term and the same terms give the same sum
-pub row_sum-same : (first first' : Bool) (t t' : ℕ → Bool) (i k : ℕ) → first ≡ first' → ((j : ℕ) → j ≤ k → i ≢ j → t j ≡ t' j) →
-    row_sum bits first t i k ≡ row_sum bits first' t' i k
-row_sum-same first first' t t' i zero e same =
-    step_same (i == 0) first first' (t 0) (t' 0) e (λ at. same 0 (omega arith) (eqb-false i 0 at))
-row_sum-same first first' t t' i (suc k) e same =
-    step_same (i == suc k) (row_sum bits first t i k) (row_sum bits first' t' i k) (t (suc k)) (t' (suc k))
-    (row_sum-same first first' t t' i k e (λ j le ne. same j (omega arith) ne)) (λ at. same (suc k) (omega arith) (eqb-false i (suc k) at))
+pub row_sum-same : {X : Type 0} (R : Ring X) (first first' : X) (t t' : ℕ → X) (i k : ℕ) → first ≡ first' → ((j : ℕ) → j ≤ k → i ≢ j → t j ≡ t' j) →
+    row_sum R first t i k ≡ row_sum R first' t' i k
+row_sum-same R first first' t t' i zero e same =
+    step_same R (i == 0) first first' (t 0) (t' 0) e (λ at. same 0 (omega arith) (eqb-false i 0 at))
+row_sum-same R first first' t t' i (suc k) e same =
+    step_same R (i == suc k) (row_sum R first t i k) (row_sum R first' t' i k) (t (suc k)) (t' (suc k))
+    (row_sum-same R first first' t t' i k e (λ j le ne. same j (omega arith) ne)) (λ at. same (suc k) (omega arith) (eqb-false i (suc k) at))
 
 -- sums add term by term
 pub row_sum-xor : (first first' : Bool) (t t' : ℕ → Bool) (i k : ℕ) →

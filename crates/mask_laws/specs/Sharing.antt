@@ -15,6 +15,10 @@ unshared N s = unmasked bits (each s N)
 abbrev pub unshared_inputs : Netlist → ℕ → (ℕ → Shares Bool) → List Bool
 unshared_inputs c N x = each (λ v. unshared N (x v)) c.inputs
 
+-- the first n values have the same N shares
+abbrev pub SameShares : {X : Type 0} → ℕ → ℕ → (ℕ → Shares X) → (ℕ → Shares X) → Type 0
+SameShares N n s s' = (u i : ℕ) → u < n → i < N → s u i ≡ s' u i
+
 -- The shares of each value stand for its plain value, whatever the tape ..
 abbrev pub ValuesUnmask : Type 0
 ValuesUnmask = (c : Netlist) (N : ℕ) (x : ℕ → Shares Bool) (r : List Bool) → IsWellFormed c → 1 ≤ N →

@@ -4,16 +4,16 @@ use Rattle.std.proofs.lemmas.List.{length-take-le, length-replicate}
 use Rattle.std.proofs.lemmas.List.Elements.{All-nil, All-cons, All-tail, All-append, All-take, All-drop, All-replicate}
 use Rattle.std.proofs.lemmas.Nat.{xor_lt}
 use Rattle.mask_modes.specs.CounterMode.{block_count, xor_bytes}
-use Rattle.mask_modes.specs.Readings.{AreBytes}
+use Rattle.mask_bits.specs.Reading.{AreBytes}
 use Rattle.mask_modes.specs.Steps.{Mode, IsBlock, block_at, blocks}
-use Rattle.mask_modes.proofs.Pieces.{each_holds}
+use Rattle.mask_laws.proofs.CircuitNames.{All-each}
 use Rattle.mask_modes.proofs.Xors.{length-xor_bytes}
 
 pub length-block_at : (b : ℕ) (message : List ℕ) (i : ℕ) → length (block_at b message i) ≡ b
 length-block_at b message i = length-take-le b (drop (i * b) message ++ replicate b 0) (omega (arith, length-append (drop (i * b) message) (replicate b 0), length-replicate {A = ℕ} b 0))
 
 pub blocks_are_long : (b : ℕ) (message : List ℕ) → All (λ block. length block ≡ b) (blocks b message)
-blocks_are_long b message = each_holds (λ block. length block ≡ b) (block_at b message) (block_count b (length message)) (λ i lt. length-block_at b message i)
+blocks_are_long b message = All-each (λ block. length block ≡ b) (block_at b message) (block_count b (length message)) (λ i lt. length-block_at b message i)
 
 pub block_at_is_block : (m : Mode) (part : List ℕ) (j : ℕ) → AreBytes part → IsBlock m (block_at m.block part j)
 block_at_is_block m part j are =

@@ -6,11 +6,10 @@ use Rattle.mask_circuit.specs.Value.{plain}
 use Rattle.mask_circuit.specs.Ring.{bits}
 use Rattle.mask_circuit.specs.Wires.{each}
 use Rattle.mask_circuit.specs.Sharing.{unmasked}
-use Rattle.mask_gadget.proofs.Made.{map-each}
+use Rattle.mask_shares.proofs.Lists.{map-each, each-get_or}
 use Rattle.mask_trace.specs.Steps.{Public, Plain, Key, Registers, stretch}
 use Rattle.mask_trace.specs.Traces.{BitShares, output_shares, after_step, after}
 use Rattle.mask_trace.specs.Values.{values_of, input_value, step_value, value_after}
-use Rattle.mask_trace.proofs.Inputs.{each-get_or}
 use Rattle.mask_trace.proofs.Computing.{runs_compute}
 use Rattle.mask_modes.specs.CounterMode.{counter, xor_bytes}
 use Rattle.mask_modes.specs.Steps.{Cipher, Mode, Enciphers, IsBlock, block_step, refresh_step, steps_from, is_due}
@@ -53,7 +52,7 @@ module _ (N : ℕ) (m : Mode) (cipher : Cipher) (two : 2 ≤ N) (is : Enciphers 
       let value : step_value (values_of have) (refresh_step m) ≡ key_of have
       = ap (λ (k : ℕ). plain m.refresh (map (input_value (values_of have)) (each Key k))) (sym size)
       ∙ ap (plain m.refresh) (key_value (values_of have))
-      ∙ is.refreshes (key_of have) size in (
+      ∙ is.circuits.refreshes (key_of have) size in (
         run.0,
         ap (λ (now : Registers Bool). now.key) run.1
             ∙ ap (λ (bs : List Bool). bs ++ drop (length bs) (key_of have)) value

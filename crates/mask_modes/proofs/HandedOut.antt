@@ -5,23 +5,24 @@ use Rattle.std.proofs.Math.ListN.{get_or-map}
 use Rattle.std.proofs.lemmas.List.{length-map}
 use Rattle.std.proofs.lemmas.List.Concat.{concat_is}
 use Rattle.std.proofs.lemmas.List.Elements.{All-tail}
-use Rattle.mask_bits.specs.Reading.{bit}
+use Rattle.mask_bits.specs.Reading.{bit, AreBytes}
 use Rattle.mask_circuit.specs.Ring.{bits}
 use Rattle.mask_circuit.specs.Wires.{each}
 use Rattle.mask_circuit.specs.Sharing.{unmasked}
-use Rattle.mask_shares.proofs.Lists.{length-each, get_or-each}
-use Rattle.mask_gadget.proofs.Made.{map-each, each-same, flat_map-each}
+use Rattle.mask_circuit.proofs.Places.{length-each}
+use Rattle.mask_shares.proofs.Lists.{get_or-each, map-each, each-same, each-first}
+use Rattle.mask_gadget.proofs.Made.{flat_map-each}
 use Rattle.mask_trace.specs.Steps.{Registers, stretch}
 use Rattle.mask_trace.specs.Traces.{BitShares, output_shares, after_step}
 use Rattle.mask_modes.specs.CounterMode.{block_count, counter, ciphertext_from, xor_bytes}
-use Rattle.mask_modes.specs.Readings.{AreBytes, IsReading}
+use Rattle.mask_modes.specs.Readings.{IsReading}
 use Rattle.mask_modes.specs.Steps.{Cipher, Mode, Enciphers, IsBlock, block_at, blocks, block_step, refresh_step, steps_from, is_due}
 use Rattle.mask_modes.specs.Outputs.{key_of, HasKey, ciphertext_block, handed_out, StandFor}
 use Rattle.mask_modes.specs.Laws.{OutputsStandForCiphertext, OutputsAreBits}
 use Rattle.mask_modes.proofs.CiphertextBlocks.{ciphertext_whole, ciphertext_byte}
 use Rattle.mask_modes.proofs.Keystreams.{counter_is_block, makes_blocks}
 use Rattle.mask_modes.proofs.Encrypting.{encrypted, refreshed}
-use Rattle.mask_modes.proofs.Pieces.{each-first, each_holds}
+use Rattle.mask_laws.proofs.CircuitNames.{All-each}
 use Rattle.mask_modes.proofs.Blocks.{block_at_is_block, xor_is_block}
 
 -- blocks are known by their readings
@@ -50,10 +51,10 @@ module _ (N : ℕ) (m : Mode) (cipher : Cipher) (two : 2 ≤ N) (is : Enciphers 
   ends_in_ciphertext key i part outputs out size are stand same =
       let n = block_count m.block (length part) in
       let block = ciphertext_block m.block m.iv (cipher key) i part in
-      let all : All (IsBlock m) (each block n) = each_holds (IsBlock m) block n (λ j lt. ciphertext_block_is_block key i part j size are) in
+      let all : All (IsBlock m) (each block n) = All-each (IsBlock m) block n (λ j lt. ciphertext_block_is_block key i part j size are) in
       ap (λ (l : List (List ℕ)). take (length part) (concat l)) (same_blocks m is.reads out (each block n) stand.are_blocks all (stand.read ∙ same))
       ∙ ap (take (length part)) (concat_is (each block n) ∙ flat_map-each (λ x. x) block n)
-      ∙ sym (ciphertext_whole m.block m.iv (cipher key) is.some (makes_blocks m cipher key is size) i part)
+      ∙ sym (ciphertext_whole m.block m.iv (cipher key) is.circuits.some (makes_blocks m cipher key is size) i part)
 
   -- what blocks share one by one
   blocks_encrypted : (have : Registers BitShares) (i : ℕ) (part : List ℕ) (r : ℕ → List Bool) → HasKey N m have → AreBytes part →
@@ -112,7 +113,7 @@ outputs_stand_for_ciphertext = record {
   run = λ N m cipher have i part r out two is has are stand.
       let n = block_count m.block (length part) in
       let xors : (ℕ → List ℕ) → ℕ → List ℕ = λ block j. xor_bytes (block j) (cipher (key_of have) (counter m.block m.iv (i + j))) in
-      let all : All (IsBlock m) (blocks m.block part) = each_holds (IsBlock m) (block_at m.block part) n (λ j lt. block_at_is_block m part j are) in
+      let all : All (IsBlock m) (blocks m.block part) = All-each (IsBlock m) (block_at m.block part) n (λ j lt. block_at_is_block m part j are) in
       ends_in_ciphertext N m cipher two is (key_of have) i part (handed_out N have (steps_from m i (blocks m.block part)) r) out (length-map have.key _ ∙ has.key) are stand
       (handed N m cipher two is (key_of have) have i (blocks m.block part) r has refl all
       ∙ ap (map m.reading)
@@ -130,4 +131,4 @@ outputs_are_bits N m cipher have i part r k p place two is has are lt reads =
     sym (get_or-map (unmasked bits) (output_shares N have (block_step m (i + j) (block_at m.block part j)) r) place [])
     ∙ ap (λ (bs : List Bool). get_or bs place false) (encrypted N m cipher two is have (i + j) (block_at m.block part j) r has (block_at_is_block m part j are))
     ∙ reads block (ciphertext_block_is_block N m cipher two is (key_of have) i part j size are)
-    ∙ ap (bit p) (sym (ciphertext_byte m.block m.iv (cipher (key_of have)) is.some (makes_blocks m cipher (key_of have) is size) i part k lt))
+    ∙ ap (bit p) (sym (ciphertext_byte m.block m.iv (cipher (key_of have)) is.circuits.some (makes_blocks m cipher (key_of have) is size) i part k lt))

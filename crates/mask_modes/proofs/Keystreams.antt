@@ -6,18 +6,19 @@ use Rattle.mask_circuit.specs.Wires.{joined}
 use Rattle.mask_circuit.proofs.Places.{length-each, length-joined}
 use Rattle.mask_gadget.proofs.Made.{joined-same}
 use Rattle.mask_modes.specs.CounterMode.{MakesBlocks, bytes_of, block_count, counter, keystream, ciphertext_from, xor_bytes}
-use Rattle.mask_modes.specs.Readings.{AreBytes}
+use Rattle.mask_bits.specs.Reading.{AreBytes}
 use Rattle.mask_modes.specs.Steps.{Cipher, Mode, Enciphers, IsBlock}
 use Rattle.mask_modes.specs.Laws.{CiphertextFits}
 use Rattle.mask_modes.proofs.BlockCounts.{block_count-add, block_count-whole, le-block_count, block_count_grows}
-use Rattle.mask_modes.proofs.Pieces.{joined-add, each_holds}
+use Rattle.mask_laws.proofs.CircuitNames.{All-each}
+use Rattle.mask_modes.proofs.Pieces.{joined-add}
 use Rattle.mask_modes.proofs.Xors.{length-xor_bytes, xor_bytes-append, xor_bytes-append_right, xor_bytes-take, xor_bytes_twice}
 
 pub length-counter : (b iv i : ℕ) → length (counter b iv i) ≡ b
 length-counter b iv i = length-each _ b
 
 pub bytes_of_are_bytes : (n x : ℕ) → AreBytes (bytes_of n x)
-bytes_of_are_bytes n x = each_holds (λ byte. byte < 2 ^ 8) _ n (λ k lt. mod_below _ (2 ^ 8) (pow_pos 8))
+bytes_of_are_bytes n x = All-each (λ byte. byte < 2 ^ 8) _ n (λ k lt. mod_below _ (2 ^ 8) (pow_pos 8))
 
 -- a counter is a block
 pub counter_is_block : (m : Mode) (i : ℕ) → IsBlock m (counter m.block m.iv i)

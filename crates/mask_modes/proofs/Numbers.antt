@@ -3,11 +3,11 @@ use Rattle.std.proofs.Common.{◌≡◌, ℕ, ◌+◌, ◌*◌, ◌%◌, ◌^◌
 use Rattle.std.proofs.Math.Nat.{mod-mod}
 use Rattle.std.proofs.lemmas.Nat.{xor_block, xor_mod, xor_comm}
 use Rattle.std.proofs.lemmas.List.Elements.{All-tail}
-use Rattle.mask_bits.specs.Reading.{lowest, high, big_endian}
+use Rattle.mask_bits.specs.Reading.{lowest, high, big_endian, AreBytes}
 use Rattle.mask_circuit.specs.Value.{plain}
 use Rattle.mask_circuit.proofs.Places.{length-each}
 use Rattle.mask_modes.specs.CounterMode.{bytes_of, xor_bytes}
-use Rattle.mask_modes.specs.Readings.{AreBytes, IsReading}
+use Rattle.mask_modes.specs.Readings.{IsReading}
 use Rattle.mask_modes.specs.Steps.{on_numbers}
 use Rattle.mask_modes.specs.Laws.{NumbersAreBlocks}
 use Rattle.mask_modes.proofs.Blocks.{xor_bytes_are_bytes}
@@ -58,15 +58,7 @@ high-xor n x block size are =
 
 pub numbers_are_blocks : NumbersAreBlocks
 numbers_are_blocks m encrypt is = record {
-  formed = is.formed;
-  strong = is.strong;
-  refresh_formed = is.refresh_formed;
-  refresh_strong = is.refresh_strong;
-  some = is.some;
-  inputs = is.inputs;
-  outputs = is.outputs;
-  refresh_inputs = is.refresh_inputs;
-  refresh_outputs = is.refresh_outputs;
+  circuits = is.circuits;
   reads = subst IsReading (sym is.reads) bytes_are_read.high_first;
   is_block = λ key counter size block_is. (length-each _ m.block, bytes_of_are_bytes m.block (encrypt key (big_endian counter)));
   value = λ key counter block size counter_is block_is.
@@ -77,5 +69,4 @@ numbers_are_blocks m encrypt is = record {
       ∙ ap₂ (λ (c b : ℕ). lowest (8 * m.block) (bit_xor (encrypt key c) b)) (number_of_high counter counter_is.1) (number_of_high block block_is.1)
       ∙ sym (high-xor m.block (encrypt key (big_endian counter)) block block_is.0 block_is.1)
       ∙ ap (λ (reading : List ℕ → List Bool). reading (xor_bytes block (on_numbers m.block encrypt key counter))) (sym is.reads);
-  refreshes = is.refreshes;
 }

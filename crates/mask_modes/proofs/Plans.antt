@@ -4,7 +4,8 @@ use Rattle.std.proofs.lemmas.Bool.{cases_lt}
 use Rattle.std.proofs.lemmas.List.{length-map, map-append, append-nil, get_or_append_left, get_or-append_right}
 use Rattle.std.proofs.lemmas.List.Elements.{All-nil, All-tail, All-append, All-map}
 use Rattle.mask_circuit.specs.Wires.{each}
-use Rattle.mask_shares.proofs.Lists.{length-each, get_or-each}
+use Rattle.mask_circuit.proofs.Places.{length-each}
+use Rattle.mask_shares.proofs.Lists.{get_or-each}
 use Rattle.mask_trace.specs.Steps.{InputBit, Public, Plain, Key, Step, IsThere, IsNotHeld, IsStrongStep, IsStrongPlan}
 use Rattle.mask_trace.specs.Privacy.{AreAlike, without_message}
 use Rattle.mask_trace.proofs.Showing.{plans_are_private}
@@ -13,13 +14,13 @@ use Rattle.mask_modes.specs.Steps.{Cipher, Mode, Enciphers, blocks, block_step, 
 use Rattle.mask_modes.specs.Laws.{StepsAreStrong, RunsArePrivate}
 use Rattle.mask_modes.proofs.Keystreams.{length-counter}
 use Rattle.mask_modes.proofs.Blocks.{blocks_are_long}
-use Rattle.mask_modes.proofs.Pieces.{each_holds}
+use Rattle.mask_laws.proofs.CircuitNames.{All-each}
 
 -- THE KEY
 
 -- the whole key is there ..
 key_there : (k s : ℕ) → All (IsThere k s) (each Key k)
-key_there k s = each_holds (IsThere k s) Key k (λ i lt. lt)
+key_there k s = All-each (IsThere k s) Key k (λ i lt. lt)
 
 -- .. each bit at its place
 key_at : (k i : ℕ) (more : List InputBit) → i < k → get_or (each Key k ++ more) i (Public false) ≡ Key i
@@ -92,9 +93,9 @@ module _ (m : Mode) (cipher : Cipher) (is : Enciphers cipher m) where
   block_step_is_strong i block e =
       let bits : (bytes : List ℕ) → length bytes ≡ m.block → length (m.reading bytes) ≡ 8 * m.block = λ bytes size. is.reads.count bytes ∙ ap (λ (n : ℕ). 8 * n) size in
       record {
-        formed = is.formed;
-        strong = is.strong;
-        count = length-all m.key _ (m.reading block) ∙ ap₂ (λ (a b : ℕ). m.key + (a + b)) (bits _ (length-counter m.block m.iv _)) (bits block e) ∙ sym is.inputs;
+        formed = is.circuits.formed;
+        strong = is.circuits.strong;
+        count = length-all m.key _ (m.reading block) ∙ ap₂ (λ (a b : ℕ). m.key + (a + b)) (bits _ (length-counter m.block m.iv _)) (bits block e) ∙ sym is.circuits.inputs;
         there = all_there m.key _ (m.reading block);
         once = all_once m.key _ (m.reading block);
         fit = tt;
@@ -102,12 +103,12 @@ module _ (m : Mode) (cipher : Cipher) (is : Enciphers cipher m) where
 
   pub refresh_step_is_strong : IsStrongStep m.key 0 (refresh_step m)
   refresh_step_is_strong = record {
-    formed = is.refresh_formed;
-    strong = is.refresh_strong;
-    count = length-each Key m.key ∙ sym is.refresh_inputs;
+    formed = is.circuits.refresh_formed;
+    strong = is.circuits.refresh_strong;
+    count = length-each Key m.key ∙ sym is.circuits.refresh_inputs;
     there = key_there m.key 0;
     once = subst IsOnce (append-nil (each Key m.key)) (key_once m.key [] (All-nil IsNotHeld));
-    fit = omega (arith, is.refresh_outputs);
+    fit = omega (arith, is.circuits.refresh_outputs);
   }
 
   plan_is_strong : (i : ℕ) (part : List (List ℕ)) → All (λ block. length block ≡ m.block) part → IsStrongPlan m.key 0 (steps_from m i part)

@@ -5,15 +5,13 @@ use Rattle.std.proofs.lemmas.List.{append-nil, take_at, drop_at, length-reverse,
 use Rattle.std.proofs.lemmas.Bool.{cases_lt}
 use Rattle.std.proofs.lemmas.Nat.{shr-shr}
 use Rattle.std.proofs.lemmas.List.Elements.{All-tail}
-use Rattle.mask_bits.specs.Reading.{bit, lowest, low, high, number, big_endian}
+use Rattle.mask_bits.specs.Reading.{bit, lowest, low, high, number, big_endian, AreBytes}
 use Rattle.mask_bits.proofs.Bytes.{length-low, low-place, low-push, number-high}
 use Rattle.mask_bits.proofs.Numbers.{length-lowest, number-lowest, lowest-of}
 use Rattle.mask_circuit.specs.Wires.{each}
-use Rattle.mask_gadget.proofs.Made.{each-same}
+use Rattle.mask_shares.proofs.Lists.{each-same, each-first}
 use Rattle.mask_modes.specs.CounterMode.{counter, bytes_of}
-use Rattle.mask_modes.specs.Readings.{AreBytes}
 use Rattle.mask_modes.specs.Laws.{BytesAreRead}
-use Rattle.mask_modes.proofs.Pieces.{each-first}
 use Rattle.mask_modes.proofs.Keystreams.{bytes_of_are_bytes}
 
 -- a byte is known by its bits

@@ -4,7 +4,7 @@ use Rattle.std.proofs.lemmas.List.{drop-append-le, take-append-le, drop_at, drop
 use Rattle.std.proofs.lemmas.Nat.{row_fits}
 use Rattle.mask_circuit.specs.Wires.{each}
 use Rattle.mask_circuit.proofs.Places.{length-each}
-use Rattle.mask_gadget.proofs.Made.{each-same}
+use Rattle.mask_shares.proofs.Lists.{each-same}
 use Rattle.mask_modes.specs.CounterMode.{block_count}
 use Rattle.mask_modes.specs.Steps.{Mode, block_at, blocks, block_step, steps_from, ahead_of}
 use Rattle.mask_modes.specs.Laws.{MessagesSplit}

@@ -4,7 +4,7 @@ use Rattle.std.proofs.lemmas.Bool.{eqb-false}
 use Rattle.std.proofs.lemmas.List.Elements.{All-tail}
 use Rattle.mask_circuit.specs.Wires.{each}
 use Rattle.mask_circuit.specs.Expansion.{draws}
-use Rattle.mask_shares.proofs.Lists.{length-each}
+use Rattle.mask_circuit.proofs.Places.{length-each}
 use Rattle.mask_trace.specs.Steps.{Public, Plain, Key, plain_bits, stretch, bits_of}
 use Rattle.mask_trace.proofs.Inputs.{inputs_stand_in_parts}
 use Rattle.mask_trace.proofs.Traces.{traces_split, bits_of-cons}

@@ -1,7 +1,7 @@
 -- What is proved of counter mode.
 use Rattle.std.specs.Prelude.{◌≡◌, ℕ, pred, ◌+◌, ◌-◌, ◌*◌, ◌/◌, ◌%◌, ◌^◌, ◌<◌, ◌≤◌, Bool, false, List, [], ◌++◌, map, length, take, slice_index, All, slice_index_or}
 use Rattle.std.specs.List.{concat}
-use Rattle.mask_bits.specs.Reading.{bit, lowest, low, high, big_endian}
+use Rattle.mask_bits.specs.Reading.{bit, lowest, low, high, big_endian, AreBytes}
 use Rattle.mask_circuit.specs.Ring.{bits}
 use Rattle.mask_circuit.specs.Wires.{each, joined}
 use Rattle.mask_circuit.specs.Expansion.{draws}
@@ -12,7 +12,7 @@ use Rattle.mask_trace.specs.Privacy.{AreAlike, trace_hits}
 use Rattle.mask_trace.specs.Drawing.{Stand, Ran, RanPart}
 use Rattle.mask_modes.specs.CounterMode.{MakesBlocks, block_count, counter, ciphertext_from, xor_bytes}
 use Rattle.mask_modes.specs.Steps.{Cipher, Mode, Enciphers, EnciphersNumbers, on_numbers, IsBlock, block_at, blocks, block_step, refresh_step, steps_from, steps_of, ahead_of, block_steps, IsBatch}
-use Rattle.mask_modes.specs.Readings.{AreBytes, IsReading}
+use Rattle.mask_modes.specs.Readings.{IsReading}
 use Rattle.mask_modes.specs.Outputs.{key_of, HasKey, ciphertext_block, handed_out, StandFor}
 
 -- Whole blocks and what follows them: blocks, steps and ciphertext split there.

@@ -1,8 +1,6 @@
 -- Bytes and their readings as bits.
-use Rattle.std.specs.Prelude.{◌≡◌, ℕ, ◌*◌, ◌^◌, ◌<◌, Bool, List, length, All}
-
-abbrev pub AreBytes : List ℕ → Type 0
-AreBytes bytes = All (λ byte. byte < 2 ^ 8) bytes
+use Rattle.std.specs.Prelude.{◌≡◌, ℕ, ◌*◌, Bool, List, length}
+use Rattle.mask_bits.specs.Reading.{AreBytes}
 
 -- a reading of bytes: eight bits for each, and others for other bytes
 pub record IsReading (reading : List ℕ → List Bool) : Type 0 where

@@ -1,12 +1,12 @@
 -- The steps of a run in counter mode.
 use Rattle.std.specs.Prelude.{◌≡◌, ℕ, suc, ◌+◌, ◌*◌, ◌%◌, ◌<◌, ◌≤◌, Bool, not, ◌&&◌, ◌==◌, cond, List, [], ◌∷◌, ◌++◌, map, length, take, drop, replicate, bit_xor}
-use Rattle.mask_bits.specs.Reading.{lowest, high, number, big_endian}
+use Rattle.mask_bits.specs.Reading.{lowest, high, number, big_endian, AreBytes}
 use Rattle.mask_circuit.specs.Netlist.{Netlist, IsWellFormed}
 use Rattle.mask_circuit.specs.Value.{plain}
 use Rattle.mask_circuit.specs.Wires.{each}
 use Rattle.mask_circuit.specs.Acceptance.{IsStrong}
 use Rattle.mask_trace.specs.Steps.{Public, Plain, Key, Nothing, AsKey, Step}
-use Rattle.mask_modes.specs.Readings.{AreBytes, IsReading}
+use Rattle.mask_modes.specs.Readings.{IsReading}
 use Rattle.mask_modes.specs.CounterMode.{block_count, bytes_of, counter, xor_bytes}
 
 -- How a cipher's circuit is used: its inputs are the bits of the key, of a counter, and of a block of the message, where
@@ -74,9 +74,9 @@ IsBlock m bytes = (length bytes ≡ m.block) × AreBytes bytes
 abbrev pub Cipher : Type 0
 Cipher = List Bool → List ℕ → List ℕ
 
--- What a mode takes from a cipher and its circuits: the cipher makes blocks of blocks, and the circuits, which are strong, do
--- what they are for.
-pub record Enciphers (cipher : Cipher) (m : Mode) : Type 0 where
+-- Both circuits of a mode are strong, and have as many inputs and outputs as the key and the blocks have bits. The one that
+-- gives the key fresh shares changes no bit of it.
+pub record CircuitsFit (m : Mode) : Type 0 where
   pub formed : IsWellFormed m.circuit
   pub strong : IsStrong m.circuit
   pub refresh_formed : IsWellFormed m.refresh
@@ -86,11 +86,15 @@ pub record Enciphers (cipher : Cipher) (m : Mode) : Type 0 where
   pub outputs : length m.circuit.outputs ≡ 8 * m.block
   pub refresh_inputs : m.refresh.inputs ≡ m.key
   pub refresh_outputs : length m.refresh.outputs ≡ m.key
+  pub refreshes : (key : List Bool) → length key ≡ m.key → plain m.refresh key ≡ key
+
+-- What a mode takes from a cipher: the cipher makes blocks of blocks, and the circuit adds its blocks to those of the message.
+pub record Enciphers (cipher : Cipher) (m : Mode) : Type 0 where
+  pub circuits : CircuitsFit m
   pub reads : IsReading m.reading
   pub is_block : (key : List Bool) (counter : List ℕ) → length key ≡ m.key → IsBlock m counter → IsBlock m (cipher key counter)
   pub value : (key : List Bool) (counter block : List ℕ) → length key ≡ m.key → IsBlock m counter → IsBlock m block →
       plain m.circuit (key ++ (m.reading counter ++ m.reading block)) ≡ m.reading (xor_bytes block (cipher key counter))
-  pub refreshes : (key : List Bool) → length key ≡ m.key → plain m.refresh key ≡ key
 
 -- a cipher on numbers, where a block of b bytes is a big-endian one
 abbrev pub on_numbers : ℕ → (List Bool → ℕ → ℕ) → Cipher
@@ -99,16 +103,7 @@ on_numbers b encrypt key block = bytes_of b (encrypt key (big_endian block))
 -- What a mode that reads high first takes from a cipher on numbers: the circuit's outputs are the bits of the XOR of two
 -- numbers, the encrypted counter and the block, each lowest bit first.
 pub record EnciphersNumbers (encrypt : List Bool → ℕ → ℕ) (m : Mode) : Type 0 where
-  pub formed : IsWellFormed m.circuit
-  pub strong : IsStrong m.circuit
-  pub refresh_formed : IsWellFormed m.refresh
-  pub refresh_strong : IsStrong m.refresh
-  pub some : 0 < m.block
-  pub inputs : m.circuit.inputs ≡ m.key + (8 * m.block + 8 * m.block)
-  pub outputs : length m.circuit.outputs ≡ 8 * m.block
-  pub refresh_inputs : m.refresh.inputs ≡ m.key
-  pub refresh_outputs : length m.refresh.outputs ≡ m.key
+  pub circuits : CircuitsFit m
   pub reads : m.reading ≡ high
   pub value : (key counter block : List Bool) → length key ≡ m.key → length counter ≡ 8 * m.block → length block ≡ 8 * m.block →
       plain m.circuit (key ++ (counter ++ block)) ≡ lowest (8 * m.block) (bit_xor (encrypt key (number counter)) (number block))
-  pub refreshes : (key : List Bool) → length key ≡ m.key → plain m.refresh key ≡ key

@@ -8,7 +8,7 @@ use Rattle.std.proofs.lemmas.List.FromFn.{length-range_with_len, get_or-range_wi
 use Rattle.std.proofs.lemmas.Option.{same_Some}
 use Rattle.mask_circuit.specs.declared.gates.Gate.{Gate}
 use Rattle.mask_circuit.specs.declared.gates.Gate.TheVariants.{And, Ref}
-use Rattle.mask_circuit.specs.Netlist.{Netlist, AreGates, value_count}
+use Rattle.mask_circuit.specs.Netlist.{Netlist, AreGates, IsWellFormed, value_count}
 use Rattle.mask_circuit.specs.Value.{value_at, plain_values, plain}
 use Rattle.mask_circuit.specs.Acceptance.{output_at, gate_at, IsTidy, Reaches, Input, ProductHere, RefreshHere, FromLeft, FromRight, FromNegated, IsAccepted, Uses, IsFenced, IsStrong}
 use Rattle.mask_circuit.proofs.GateAt.{gate_at_within, gate_at_operands, gate_at_gate}
@@ -142,7 +142,19 @@ module _ (c : Netlist) (us : List ℕ) (are : AreGates c.inputs c.gates) (below 
   unfolding with_fence with_outputs with_gates
   outputs-with_fence none = ap (λ (os : List ℕ). os ++ range_with_len (value_count c) (length us)) none
 
-  -- its outputs are fenced, where nothing was handed out before
+  -- it's well formed, where nothing was handed out before
+  pub IsWellFormed-fence : c.outputs ≡ [] → IsWellFormed (with_fence c us)
+  IsWellFormed-fence none = record {
+    gates = AreGates-fence;
+    outputs = λ k d lt.
+        let outs = outputs-with_fence none in
+        let less : k < length us = omega (arith, lt, ap length outs, length-range_with_len (value_count c) (length us)) in
+        let at : get_or (with_fence c us).outputs k d ≡ value_count c + k
+        = ap (λ (os : List ℕ). get_or os k d) outs ∙ get_or-range_with_len (value_count c) (length us) k d less in
+        omega (arith, at, value_count-with_fence);
+  }
+
+  -- its outputs are fenced then
   pub IsFenced-fence : c.outputs ≡ [] → IsFenced (with_fence c us)
   IsFenced-fence none k lt = record {
     is_refresh = (get_or us k 0, ap (gate_at (with_fence c us)) (place k within) ∙ fence_gate k within);

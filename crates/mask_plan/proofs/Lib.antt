@@ -1,4 +1,4 @@
-mod Counted
-mod Evaluations
-mod Lanes
-mod Turned
+mod Bits
+mod Places
+mod StepExamples
+mod Taking

@@ -1,12 +1,28 @@
-//! A run in counter mode between its batches: blocks side by side in lanes, and fresh shares of the key.
+//! Sessions: a message that is taken piece by piece, where each piece is encrypted on shares.
+//!
+//! A [`Session`] has a key in N shares, at order N - 1, and takes the message in batches: [`Session::feed`] takes as many bytes as
+//! [`Session::batch_bytes`] says, which are 64 blocks, and [`Session::end`] takes the rest, which may be none. Each call evaluates
+//! the cipher's circuit once, for all blocks side by side, and ahead of each batch but the first a circuit that gives the key fresh
+//! shares. It draws the coins of its blocks from the tape, and tells the watch of each block.
+//!
+//! After a call that was Ok there are [`Session::written`] bytes to hand out, as many as the call took, in shares: byte k is byte
+//! `k % b` of the block in lane `k / b`, where b is the number of bytes of a block, and [`Session::out_bit`] has the shares of its
+//! bits. Nothing here brings shares together.
+//!
+//! A refusal closes a session: the message is longer than the longest, there is no memory, or drawing failed, tested in this
+//! order. From then on each call is refused with `Closed` and that reason, and changes nothing. A step is a gate of a circuit that
+//! is evaluated, for all lanes at once, or a value that the checker visits in [`Session::start`].
+//!
+//! `specs/Sessions.antt` says what each call does; `specs/Inside.antt` is for the proofs alone.
 #![tactic(auto)]
 
-mod counter;
-mod shares;
-mod words;
+mod keys;
+mod pieces;
+mod session;
+mod tasks;
 
-pub use counter::CounterRun;
-pub use words::{BitOrder, block_words, counter_bytes};
+pub use mask_tasks::{KeySize, Task, key_length};
+pub use session::{PlanError, Session, Stop};
 
 #[cfg(test)]
 mod tests;

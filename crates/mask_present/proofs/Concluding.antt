@@ -123,7 +123,7 @@ module _ (r : Register) (shape : IsShape r) where
   pub known-sums : All (λ u. u < value_count (encrypted_message r)) sums
   known-sums = All-range (λ u. u < value_count (encrypted_message r)) (value_count end.draft) 64 (λ u low high. let count = count-message in omega arith)
 
-  no_outputs : (encrypted_message r).outputs ≡ []
+  pub no_outputs : (encrypted_message r).outputs ≡ []
   no_outputs = (Adds-message r shape).outputs ∙ (unfold start in refl)
 
   tidy-message : Formed (encrypted_message r) → IsTidy (encrypted_message r)

@@ -3,6 +3,7 @@ pub mod Concluding
 pub mod Counting
 pub mod Encrypting
 pub mod Fitting
+pub mod Forming
 pub mod Holding
 pub mod Knowing
 pub mod Lengthening

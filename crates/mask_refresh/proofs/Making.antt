@@ -6,7 +6,7 @@ use Rattle.std.proofs.lemmas.List.Sums.{sum_by-cons}
 use Rattle.std.proofs.lemmas.List.FromFn.{length-range_with_len}
 use Rattle.mask_circuit.specs.declared.gates.Gate.{Gate}
 use Rattle.mask_circuit.specs.declared.gates.Gate.TheVariants.{Ref}
-use Rattle.mask_circuit.specs.Netlist.{Netlist, IsCircuit, only_inputs, value_count, is_product, is_refresh}
+use Rattle.mask_circuit.specs.Netlist.{Netlist, IsWellFormed, IsCircuit, only_inputs, value_count, is_product, is_refresh}
 use Rattle.mask_circuit.specs.Value.{plain}
 use Rattle.mask_circuit.specs.Acceptance.{gate_at, IsTidy, IsStrong}
 use Rattle.mask_circuit.proofs.GateAt.{gate_at_within}
@@ -14,7 +14,7 @@ use Rattle.mask_parts.specs.CipherCircuits.{size_of, IsCipherCircuit}
 use Rattle.mask_parts.specs.Drafts.{with_gates, with_outputs, bits_of}
 use Rattle.mask_parts.specs.Fences.{with_fence}
 use Rattle.mask_parts.proofs.Concluding.{IsStrong-tidy_fence, IsCipherCircuit-strong}
-use Rattle.mask_parts.proofs.Fencing.{plain-with_fence}
+use Rattle.mask_parts.proofs.Fencing.{IsWellFormed-fence, plain-with_fence}
 use Rattle.mask_refresh.specs.Refreshing.{refreshing, refreshing_size, same_bits}
 use Rattle.mask_refresh.proofs.Ranges.{below-bound, map-range}
 
@@ -31,6 +31,10 @@ tidy-inputs n = record {
 
 pub below-inputs : (n : ℕ) → All (λ u. u < value_count (only_inputs n)) (range_with_len 0 n)
 below-inputs n k d lt = let low = below-bound n k d lt in omega (arith, low)
+
+pub IsWellFormed-refreshing : (n : ℕ) → IsWellFormed (refreshing n)
+unfolding refreshing
+IsWellFormed-refreshing n = IsWellFormed-fence (only_inputs n) (range_with_len 0 n) tt (below-inputs n) refl
 
 pub strong-refreshing : (n : ℕ) → IsStrong (refreshing n)
 unfolding refreshing
@@ -65,7 +69,7 @@ pub fenced-inputs : (n : ℕ) (c : Netlist) (us : List ℕ) → c ≡ only_input
 unfolding refreshing
 fenced-inputs n c us is are = ap₂ with_fence is are
 
-inputs-refreshing : (n : ℕ) → (refreshing n).inputs ≡ n
+pub inputs-refreshing : (n : ℕ) → (refreshing n).inputs ≡ n
 unfolding refreshing with_fence with_gates with_outputs
 inputs-refreshing n = refl
 

@@ -1,7 +1,7 @@
 -- Plain bits in lane 0 of words: shared, evaluated and unmasked.
-use Rattle.std.proofs.Common.{◌≡◌, ℕ, suc, ◌+◌, ◌-◌, ◌*◌, Bool, true, false, cond, List, [], ◌∷◌, ◌++◌, length, map, take, drop, refl, ap, ap₂, sym, ◌∙◌, ◌==◌, bit_and, arith, lit<}
+use Rattle.std.proofs.Common.{◌≡◌, ℕ, suc, ◌+◌, ◌-◌, ◌*◌, Bool, true, false, cond, List, [], ◌∷◌, length, map, take, drop, refl, ap, ap₂, sym, ◌∙◌, ◌==◌, bit_and, arith, lit<}
 use Rattle.std.specs.List.{concat}
-use Rattle.std.proofs.lemmas.List.{append-nil, length-map, map-append, take-map, drop-map, take-take, drop-take}
+use Rattle.std.proofs.lemmas.List.{append-nil, length-map, take-map, drop-map, take-take, drop-take}
 use Rattle.std.proofs.lemmas.Simd.{map-map}
 use Rattle.std.proofs.lemmas.Nat.{and_mask}
 use Rattle.std.proofs.lemmas.Nat.Bits.{bit_at_lowest}
@@ -14,10 +14,10 @@ use Rattle.mask_circuit.specs.Value.{plain}
 use Rattle.mask_circuit.specs.Expansion.{draws, outs}
 use Rattle.mask_shares.specs.Sharing.{all_listed, all_shared, unmasked}
 use Rattle.mask_eval.specs.Evaluated.{coin_count, inputs_of, coins_behind, EvaluatesInLanes}
-use Rattle.mask_eval.specs.Watching.{Told, reports, told_more}
+use Rattle.mask_eval.specs.Watching.{Told, reports, told_more, value_by_value}
 use Rattle.mask_laws.proofs.Sharings.{all_shared-take}
-use Rattle.mask_eval.proofs.Shared.{all_shared_in_lane, unmasked_in_lane, all_shared-unmask}
-use Rattle.mask_run.specs.Calls.{value_by_value, eval_bits, eval_call}
+use Rattle.mask_eval.proofs.Shared.{all_shared_in_lane, unmasked_in_lane, all_shared-unmask, lane-concat}
+use Rattle.mask_run.specs.Calls.{eval_bits, eval_call}
 use Rattle.mask_run.specs.Lanes.{words_of, first_bit}
 
 -- a bit as a word has it in lane 0
@@ -28,11 +28,6 @@ bit-word false = refl
 pub lane-words_of : (bs : List Bool) → lane 0 (words_of bs) ≡ bs
 lane-words_of [] = refl
 lane-words_of (b ∷ bs) = ap₂ (λ (c : Bool) (cs : List Bool). c ∷ cs) (bit-word b) (lane-words_of bs)
-
--- the words of all values in a lane
-pub lane-concat : (xss : List (List ℕ)) → lane 0 (concat xss) ≡ value_by_value (map (lane 0) xss)
-lane-concat [] = refl
-lane-concat (xs ∷ xss) = map-append (bit 0) xs (concat xss) ∙ ap (λ (bs : List Bool). lane 0 xs ++ bs) (lane-concat xss)
 
 -- shares made with words are in lane 0 those made with bits, and share the bits
 pub shared_in_lane : (d : ℕ) (bs : List Bool) (coins : List ℕ) → map (lane 0) (all_shared words d (words_of bs) coins) ≡ all_shared bits d bs (lane 0 coins)
@@ -74,8 +69,8 @@ reported_call : (c : Netlist) (d : ℕ) (bs : List Bool) (ws behind : List ℕ) 
     reports c d (concat inputs) behind (concat outputs) 1 ≡ eval_call c d bs (lane 0 ws) ∷ []
 reported_call c d bs ws behind inputs outputs shared next evaluated =
     ap (λ (t : Told). t ∷ [])
-    (same_call c d _ _ _ _ _ _ (lane-concat inputs ∙ ap value_by_value shares) coins
-    (lane-concat outputs
+    (same_call c d _ _ _ _ _ _ (lane-concat 0 inputs ∙ ap value_by_value shares) coins
+    (lane-concat 0 outputs
     ∙ ap value_by_value (evaluated ∙ ap₂ (λ (s : List (List Bool)) (t : List Bool). outs bits c (suc d) (all_listed bits s) t) shares coins)))
   where
     shares : map (lane 0) inputs ≡ all_shared bits d bs (lane 0 ws)

@@ -1,4 +1,5 @@
 pub mod LaneZero
 pub mod Printing
 pub mod Promises
+pub mod Statuses
 pub mod Telling

@@ -8,9 +8,10 @@ use Rattle.mask_words.specs.WordTests.{Word}
 use Rattle.mask_status.specs.declared.status.Status.{Status}
 use Rattle.mask_status.specs.declared.status.Status.TheVariants.{TapeFault}
 use Rattle.mask_inspect.specs.Checks.{Grammar, Inputs, Acceptance, AllPass}
-use Rattle.mask_inspect.specs.Ends.{IsRead, CostsAtMost, Writes}
+use Rattle.mask_inspect.specs.Ends.{IsRead, CostsAtMost}
+use Rattle.mask_status.specs.Ends.{Writes}
 use Rattle.mask_run.specs.Hexadecimal.{IsReport}
-use Rattle.mask_run.specs.Outside.{Outside}
+use Rattle.mask_message.specs.Outside.{Outside}
 use Rattle.mask_run.specs.Calls.{Evaluates}
 use Rattle.mask_run.specs.Evaluating.{IsReady, Prints, Evaluated, Prepares}
 use Rattle.mask_run.specs.Promises.{AsksOnlyFor}

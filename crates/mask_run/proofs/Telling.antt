@@ -1,6 +1,6 @@
--- What a watch was told in between: nothing, or one secure evaluation.
-use Rattle.std.proofs.Common.{◌≡◌, ℕ, zero, suc, ◌*◌, ◌≤◌, Bool, List, [], ◌∷◌, length, drop, Some, None, refl, sym, ap, ◌∙◌, arith, All, length-drop}
-use Rattle.std.proofs.lemmas.List.{append-nil, length-take-le}
+-- What a watch was told in between: nothing, one secure evaluation, or evaluations of strong circuits.
+use Rattle.std.proofs.Common.{◌≡◌, ℕ, zero, suc, ◌*◌, ◌≤◌, Bool, List, [], ◌∷◌, length, drop, refl, ap, ◌∙◌, arith, All, length-drop}
+use Rattle.std.proofs.lemmas.List.{length-take-le}
 use Rattle.std.specs.declared.option.Option.{Option}
 use Rattle.mask_circuit.specs.Netlist.{Netlist, IsCircuit}
 use Rattle.mask_circuit.specs.Ring.{bits}
@@ -8,26 +8,22 @@ use Rattle.mask_circuit.specs.Expansion.{draws}
 use Rattle.mask_circuit.specs.Acceptance.{IsAccepted}
 use Rattle.mask_laws.proofs.Hiding.{accepted_is_private}
 use Rattle.mask_laws.proofs.Strengthening.{strong_is_sni}
+use Rattle.mask_laws.proofs.Gates.{gate_keeps}
+use Rattle.mask_laws.proofs.Simulation.{accepted_is_ni}
+use Rattle.mask_laws.proofs.Sharings.{length-all_shared}
 use Rattle.mask_check.specs.Security.{IsNIAtEachOrder}
 use Rattle.mask_bits.specs.Reading.{low}
 use Rattle.mask_bits.proofs.Bytes.{length-low}
 use Rattle.mask_shares.specs.Sharing.{all_shared}
-use Rattle.mask_eval.specs.Watching.{Told, told_more}
-use Rattle.mask_run.specs.Calls.{eval_bits, eval_call, Evaluates, IsEvaluation, IsSecure, TellsSecureCalls}
-
--- nothing more
-told_more-nil : (told : Option (List Told)) → told_more told [] ≡ told
-told_more-nil None = refl
-told_more-nil (Some calls) = ap Some (append-nil calls)
+use Rattle.mask_gadget.proofs.Telling.{told_more-none}
+use Rattle.mask_eval.specs.Watching.{Told, told_more, IsEvaluation}
+use Rattle.mask_trace.specs.Values.{IsStrongEvaluation}
+use Rattle.mask_run.specs.Calls.{eval_bits, eval_call, Evaluates, IsSecure, TellsSecureCalls}
 
 pub TellsSecureCalls-none : (before now : Option (List Told)) → now ≡ before → TellsSecureCalls before now
-TellsSecureCalls-none before now same = ([], same ∙ sym (told_more-nil before), λ k d lt. absurd (omega arith))
+TellsSecureCalls-none before now same = ([], same ∙ told_more-none before, λ k d lt. absurd (omega arith))
 
 -- THE CALL IS AN EVALUATION
-
-length-all_shared : (d : ℕ) (bs r : List Bool) → length (all_shared bits d bs r) ≡ length bs
-length-all_shared d [] r = refl
-length-all_shared d (b ∷ bs) r = ap suc (length-all_shared d bs (drop d r))
 
 -- each value has d shares more than one, where there are coins enough
 all_shared-sizes : (d : ℕ) (bs r : List Bool) → d * length bs ≤ length r → All (λ value. length value ≡ suc d) (all_shared bits d bs r)
@@ -41,7 +37,7 @@ IsEvaluation-eval_call c d inputs r count enough =
     let coins : d * length inputs ≡ d * c.inputs = ap (λ (n : ℕ). d * n) count in
     record {
       shares = all_shared bits d inputs r;
-      count = length-all_shared d inputs r ∙ count;
+      count = length-all_shared bits d inputs r ∙ count;
       sizes = all_shared-sizes d inputs r (omega arith);
       inputs = refl;
       tape = length-take-le (draws c (suc d)) (drop (d * length inputs) r) (omega (arith, length-drop (d * length inputs) r));
@@ -74,3 +70,22 @@ TellsSecureCalls-evaluated c d inputs tape tape' told told' evaluates count some
     one : All IsSecure (eval_call c d inputs (low evaluates.fresh) ∷ [])
     one zero e lt = call
     one (suc k) e lt = absurd (omega arith)
+
+-- EVALUATIONS OF STRONG CIRCUITS ARE SECURE
+
+IsSecure-strong : (d : ℕ) (t : Told) → 1 ≤ d → d ≤ 7 → IsStrongEvaluation (suc d) t → IsSecure t
+IsSecure-strong d t some few e =
+    let order : t.order ≡ d = e.order in
+    record {
+      some = omega arith;
+      few = omega arith;
+      evaluation = e.evaluation;
+      accepted = e.strong.0;
+      non_interfering = accepted_is_ni gate_keeps t.circuit (suc t.order) (omega arith) e.formed.gates e.strong.0;
+      strongly = strong_is_sni t.circuit (suc t.order) (omega arith) e.formed;
+      private = accepted_is_private t.circuit (suc t.order) (omega arith) e.formed e.strong.0;
+    }
+
+pub TellsSecureCalls-strong : (d : ℕ) (before now : Option (List Told)) → 1 ≤ d → d ≤ 7 →
+    (calls : List Told) → now ≡ told_more before calls → All (IsStrongEvaluation (suc d)) calls → TellsSecureCalls before now
+TellsSecureCalls-strong d before now some few calls tells strong = (calls, tells, λ k e lt. IsSecure-strong d _ some few (strong k e lt))

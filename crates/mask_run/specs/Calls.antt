@@ -1,6 +1,5 @@
 -- What the watch is told by the command: the call of `eval`, and that every call is secure.
 use Rattle.std.specs.Prelude.{◌≡◌, ℕ, suc, ◌+◌, ◌*◌, ◌≤◌, Bool, List, [], ◌∷◌, length, take, drop, All}
-use Rattle.std.specs.List.{flat_map}
 use Rattle.std.specs.declared.option.Option.{Option}
 use Rattle.mask_bits.specs.Reading.{low, bytes_for}
 use Rattle.mask_io.specs.Outside.{Takes}
@@ -11,11 +10,7 @@ use Rattle.mask_circuit.specs.Acceptance.{IsAccepted, IsStrong}
 use Rattle.mask_circuit.specs.Probing.{IsNI, IsSNI}
 use Rattle.mask_circuit.specs.Privacy.{IsPrivate, IsPrivateCall}
 use Rattle.mask_shares.specs.Sharing.{all_listed, all_shared}
-use Rattle.mask_eval.specs.Watching.{Told, told_more}
-
--- the shares of all values, one value after another
-abbrev pub value_by_value : List (List Bool) → List Bool
-value_by_value values = flat_map (λ shares. shares) values
+use Rattle.mask_eval.specs.Watching.{Told, told_more, value_by_value, IsEvaluation}
 
 -- how many bits `eval` draws at order d: d for each input, and those of products and refreshes
 abbrev pub eval_bits : Netlist → ℕ → ℕ
@@ -43,16 +38,6 @@ pub record Evaluates (c : Netlist) (d : ℕ) (inputs : List Bool) (tape tape' : 
   pub drawn : Takes tape tape' fresh
   pub tells : told' ≡ told_more told (eval_call c d inputs (low fresh) ∷ [])
   pub private : IsPrivateCall c (suc d)
-
--- The record is an evaluation: the circuit expanded into shares takes the told shares of the inputs, value by value, to the
--- told shares of the outputs, with the told bits as its tape.
-pub record IsEvaluation (t : Told) : Type 0 where
-  pub shares : List (List Bool)
-  pub count : length shares ≡ t.circuit.inputs
-  pub sizes : All (λ value. length value ≡ suc t.order) shares
-  pub inputs : t.inputs ≡ value_by_value shares
-  pub tape : length t.tape ≡ draws t.circuit (suc t.order)
-  pub outputs : t.outputs ≡ value_by_value (outs bits t.circuit (suc t.order) (all_listed bits shares) t.tape)
 
 -- An evaluation of an accepted circuit at an order from 1 to 7: it is non-interfering at this order, and strongly so where
 -- it is strong; and over all sharings and tapes any d of its wires show nothing of the input bits.

@@ -11,9 +11,11 @@ use Rattle.mask_words.specs.Naming.{hex_bytes}
 use Rattle.mask_status.specs.declared.status.Status.{Status}
 use Rattle.mask_status.specs.declared.status.Status.TheVariants.{TapeFault}
 use Rattle.mask_inspect.specs.Checks.{FitInputs}
-use Rattle.mask_inspect.specs.Ends.{IsRead, Writes}
+use Rattle.mask_inspect.specs.Ends.{IsRead}
+use Rattle.mask_status.specs.Ends.{Writes}
 use Rattle.mask_run.specs.Hexadecimal.{input_bits, IsInputOf, IsReport}
-use Rattle.mask_run.specs.Outside.{Outside, IsIdle}
+use Rattle.mask_message.specs.Outside.{Outside}
+use Rattle.mask_run.specs.Outside.{IsIdle}
 use Rattle.mask_run.specs.Calls.{eval_bits, Evaluates}
 
 -- an accepted circuit for which the text stands, and whose inputs HEX fits

@@ -1,6 +1,6 @@
 //! `eval`: the output bits of a circuit that is evaluated on shares.
 
-ghost use Rattle.std.specs.Prelude.{◌≡◌, ◌+◌, ◌≤◌, [], ◌∷◌, length, IfOk, IfErr, OnOk, OnErr, IsTrue, MatchResult};
+ghost use Rattle.std.specs.Prelude.{◌≡◌, ℕ, ◌+◌, ◌≤◌, List, [], ◌∷◌, length, Option, IfOk, IfErr, OnOk, OnErr, IsTrue, MatchResult};
 ghost use Rattle.mask_bits.specs.Reading.{bytes_for};
 ghost use Rattle.mask_io.specs.Outside.{faults_after};
 ghost use Rattle.mask_circuit.specs.Value.{plain};
@@ -12,8 +12,10 @@ ghost use Rattle.mask_words.specs.WordTests.{is_hex_text};
 ghost use Rattle.mask_words.specs.Jobs.{EvalWords};
 ghost use Rattle.mask_words.specs.declared.table.Job.TheVariants.{Eval};
 ghost use Rattle.mask_inspect.specs.Checks.{Grammar, Inputs, Acceptance};
-ghost use Rattle.mask_inspect.specs.Ends.{Takes, Stops, CostsAtMost, IsEarly, is_read_fault, is_tape_fault, is_write_fault};
-ghost use Rattle.mask_run.specs.Outside.{Outside, LeavesTape, LeavesWatch, TellsNothing, WritesNothing};
+ghost use Rattle.mask_inspect.specs.Ends.{Takes, Stops, CostsAtMost, IsEarly};
+ghost use Rattle.mask_status.specs.Ends.{is_read_fault, is_tape_fault, is_write_fault};
+ghost use Rattle.mask_message.specs.Outside.{Outside};
+ghost use Rattle.mask_run.specs.Outside.{LeavesTape, LeavesWatch, TellsNothing, WritesNothing};
 ghost use Rattle.mask_run.specs.Calls.{eval_bits, Evaluates, TellsSecureCalls};
 ghost use Rattle.mask_run.specs.Evaluating.{Prepares};
 ghost use Rattle.mask_run.specs.Hexadecimal.{IsReport};
@@ -23,9 +25,9 @@ use crate::evaluation::{Prepared, evaluate};
 use crate::hexadecimal::input_bits;
 use mask_circuit::Steps;
 use mask_eval::Watch;
-use mask_inspect::{admitted, read, send};
+use mask_inspect::{admitted, read};
 use mask_io::{Entropy, Sink, Source};
-use mask_status::Status;
+use mask_status::{Status, send};
 use mask_tape::TapeError;
 use mask_words::Words;
 use std::alloc::Global;
@@ -46,8 +48,12 @@ pub fn eval<S: Source, E: Entropy, O: Sink, W: Watch, L: Ledger>(
     requires some { 1 ≤ order }
     requires few { order ≤ 7 }
     requires words { EvalWords words.now order }
-    ensures ends { Runs (Eval order) words.now
+
+    // Whatever a key file has left, it is left there.
+    ensures ends { (keys : Option (List ℕ)) → Runs (Eval order) words.now
         (record {
+          keys_before = keys;
+          keys_after = keys;
           left_before = S.left input.old;
           left_after = S.left input.new;
           tape_before = E.left tape.old;
@@ -70,6 +76,7 @@ pub fn eval<S: Source, E: Entropy, O: Sink, W: Watch, L: Ledger>(
     ensures unwatched { LeavesWatch (Eval order) result → watch.new ≡ watch.old }
     ensures untold { TellsNothing (Eval order) result → W.told watch.new ≡ W.told watch.old }
     ensures unwritten { WritesNothing (Eval order) result → out.new ≡ out.old }
+    ensures no_keys { result ≡ Status.KeyFault → ⊥ }
 {
     let prepared = match prepare(alloc, words.word(4), input, steps) {
         Ok(prepared) => prepared,
@@ -96,6 +103,7 @@ fn prepare<S: Source, L: Ledger>(
         Stops (Grammar ∷ Inputs hex.now ∷ Acceptance ∷ []) bytes (S.left input.new) status
         × CostsAtMost most_steps steps.old steps.new bytes (S.left input.new))) }
     ensures early { IfErr result IsEarly }
+    ensures no_keys { IfErr result (λ status. status ≡ Status.KeyFault → ⊥) }
     ensures front { TakesFront (S.left input.old) (S.left input.new) }
     ensures input_faults { MatchResult result
         (λ _. S.faults input.new ≡ S.faults input.old)

@@ -1,4 +1,6 @@
-//! The command `mask`: one call that reads, evaluates and writes.
+//! The command `mask`: one call that does what its words ask for, on a key file, an input, a tape and an output.
+//!
+//! What each job promises stands in `specs/Promises.antt`, a row for each; what `eval` does, in `specs/Evaluating.antt`.
 #![tactic(auto)]
 
 mod command;

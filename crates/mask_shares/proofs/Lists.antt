@@ -1,12 +1,11 @@
 -- Lists that are made by number.
-use Rattle.std.proofs.Common.{◌≡◌, ℕ, zero, suc, ◌<◌, inl, inr, List, [], ◌∷◌, length, get_or, refl, ap, ◌∙◌, arith, length-append, sym}
+use Rattle.std.proofs.Common.{◌≡◌, ℕ, zero, suc, ◌<◌, inl, inr, List, [], ◌∷◌, ◌++◌, map, length, get_or, refl, ap, ◌∙◌, arith, sym}
+use Rattle.std.specs.List.{concat}
 use Rattle.std.proofs.lemmas.Bool.{cases_lt}
-use Rattle.std.proofs.lemmas.List.{ext_get_or, get_or_push, get_or_append_left}
+use Rattle.std.proofs.lemmas.List.{append-nil, ext_get_or, get_or_push, get_or_append_left, map-append}
+use Rattle.std.proofs.lemmas.List.Folds.{concat-append}
 use Rattle.mask_circuit.specs.Wires.{each}
-
-pub length-each : {A : Type 0} (f : ℕ → A) (n : ℕ) → length (each f n) ≡ n
-length-each f zero = refl
-length-each f (suc n) = let up = length-each f n in omega (arith, length-append (each f n) (f n ∷ []))
+use Rattle.mask_circuit.proofs.Places.{length-each}
 
 pub get_or-each : {A : Type 0} (f : ℕ → A) (n k : ℕ) (d : A) → k < n → get_or (each f n) k d ≡ f k
 get_or-each f zero k d lt = absurd (omega arith)
@@ -27,3 +26,23 @@ is_each f n xs e same =
 pub each-same : {A : Type 0} (f g : ℕ → A) (n : ℕ) → ((k : ℕ) → k < n → f k ≡ g k) → each f n ≡ each g n
 each-same f g zero same = refl
 each-same f g (suc n) same = rw (each-same f g n (λ k lt. same k (omega arith)), same n (omega arith)) refl
+
+-- the first element, and then the others
+pub each-first : {A : Type 0} (f : ℕ → A) (n : ℕ) → each f (suc n) ≡ f 0 ∷ each (λ i. f (suc i)) n
+each-first f zero = refl
+each-first f (suc n) = ap (λ (xs : List _). xs ++ f (suc n) ∷ []) (each-first f n)
+
+-- a function of each element
+pub map-each : {A B : Type 0} (h : A → B) (f : ℕ → A) (n : ℕ) → map h (each f n) ≡ each (λ i. h (f i)) n
+map-each h f zero = refl
+map-each h f (suc n) = rw (map-append h (each f n) (f n ∷ []), map-each h f n) refl
+
+-- a list is made by its own elements
+pub each-get_or : {A : Type 0} (xs : List A) (d : A) → each (λ i. get_or xs i d) (length xs) ≡ xs
+each-get_or xs d =
+    let count = length-each (λ i. get_or xs i d) (length xs) in
+    ext_get_or d (each (λ i. get_or xs i d) (length xs)) xs count (λ i lt. get_or-each (λ j. get_or xs j d) (length xs) i d (omega arith))
+
+-- one list more, at the end of lists end to end
+pub concat-push : (xss : List (List ℕ)) (xs : List ℕ) → concat (xss ++ xs ∷ []) ≡ concat xss ++ xs
+concat-push xss xs = concat-append xss (xs ∷ []) ∙ ap (λ (ys : List ℕ). concat xss ++ ys) (append-nil xs)

@@ -5,6 +5,8 @@
 #![tactic(auto)]
 
 ghost use Rattle.std.specs.Prelude.{◌≡◌, ℕ, ◌^◌, ◌-◌, ◌<◌, ◌≤◌, ◌==◌, cond, length, slice_index, bit_xor};
+ghost use Rattle.mask_bits.specs.Lanes.{lane};
+ghost use Rattle.mask_bits.specs.Reading.{bit};
 ghost use Rattle.mask_circuit.specs.Ring.{words};
 ghost use Rattle.mask_circuit.specs.Wires.{each, on_first};
 ghost use Rattle.mask_shares.specs.Sharing.{unmasked};
@@ -74,6 +76,18 @@ impl<const N: usize> Shares<N> {
         self.xor(Shares::public(u64::MAX))
     }
 
+    /// The shares that these have in lane 0, in each of the 64 lanes.
+    pub fn in_all_lanes(&self) -> Shares<N>
+        requires { N ≤ 8 }
+        ensures { (l : ℕ) → l < 64 → lane l result ≡ lane 0 self.now }
+    {
+        let mut words = self.parts();
+        for i in 0..N {
+            words[i] = first_lane(words[i]);
+        }
+        Shares { words }
+    }
+
     /// Share `i`.
     pub fn share(&self, i: usize) -> u64
         requires { i < N }
@@ -109,4 +123,11 @@ impl<const N: usize> Shares<N> {
     {
         self.words.iter().fold(0, |sum, share| sum ^ share)
     }
+}
+
+// Bit 0 of the word in all places. It doesn't branch on the word, which is a share.
+fn first_lane(word: u64) -> u64
+    ensures { (l : ℕ) → l < 64 → bit l result ≡ bit 0 word }
+{
+    (word & 1) * u64::MAX
 }

@@ -1,29 +1,15 @@
 -- The bits of bytes, read as a number.
-use Rattle.std.proofs.Common.{◌≡◌, ℕ, zero, suc, ◌+◌, ◌-◌, ◌*◌, ◌/◌, ◌%◌, ◌^◌, ◌<◌, ◌≤◌, Bool, true, false, nat_eq, List, [], ◌∷◌, length, take, drop, get_or, refl, sym, ap, ◌∙◌, arith, if◌then◌else◌}
+use Rattle.std.proofs.Common.{◌≡◌, ℕ, zero, suc, ◌+◌, ◌-◌, ◌*◌, ◌/◌, ◌%◌, ◌^◌, ◌<◌, ◌≤◌, Bool, false, nat_eq, List, [], ◌∷◌, length, take, drop, get_or, refl, sym, ap, ◌∙◌, arith}
 use Rattle.std.specs.Int.{bit_at}
 use Rattle.std.proofs.lemmas.Nat.{and_mask, pow-add}
 use Rattle.std.proofs.Math.Nat.{div-div-eq-div-mul, mod-eq_of_lt}
-use Rattle.std.proofs.lemmas.Nat.Bits.{bit_at-suc, bit_at_lowest, bit_at_and, bit_at_ones, bit_at_ones_above, bit_at-lt, bit_at-zero}
+use Rattle.std.proofs.lemmas.Nat.Bits.{bit_at_and, bit_at_ones, bit_at_ones_above, bit_at-lt}
 use Rattle.std.proofs.Math.Pow.{pow_mono}
 use Rattle.std.proofs.Math.Seq.{drop-append-add}
 use Rattle.std.proofs.lemmas.List.{drop_all, get_or_append_left, get_or-drop, take-append-drop}
 use Rattle.mask_bits.specs.Reading.{bit, low, lowest, number}
 use Rattle.mask_bits.proofs.Numbers.{number-append, number-lowest, number-lt, length-lowest}
 use Rattle.mask_bits.proofs.Bytes.{low-append, length-low}
-
--- the bits of a number of bits are these
-pub bit-number : (bits : List Bool) (j : ℕ) → bit j (number bits) ≡ get_or bits j false
-bit-number [] j = rw (bit_at-zero j) refl
-bit-number (b ∷ bits) zero = rw (bit_at_lowest (number (b ∷ bits))) (go b)
-  where
-    go : (b : Bool) → nat_eq (((if b then 1 else 0) + 2 * number bits) % 2) 1 ≡ b
-    go true = let e : (1 + 2 * number bits) % 2 ≡ 1 = omega arith in rw e refl
-    go false = let e : (0 + 2 * number bits) % 2 ≡ 0 = omega arith in rw e refl
-bit-number (b ∷ bits) (suc j) = rw (bit_at-suc (number (b ∷ bits)) j, half b) (bit-number bits j)
-  where
-    half : (b : Bool) → ((if b then 1 else 0) + 2 * number bits) / 2 ≡ number bits
-    half true = omega arith
-    half false = omega arith
 
 -- bits from place s on, and only the first k of them
 pub bit-shifted : (n s k j : ℕ) → j < k → bit j (n / 2 ^ s % 2 ^ k) ≡ bit (s + j) n

@@ -64,6 +64,14 @@ impl Tape {
         Tape { last: 0, from: 8 }
     }
 
+    /// How many bits it keeps: 0 to 7.
+    pub fn kept(&self) -> usize
+        ensures count { result ≡ length self.now }
+        ensures few { length self.now < 8 }
+    {
+        8 - self.from
+    }
+
     /// Draws `bits` coins for each of the first `lanes` lanes: the next `lanes · bits` bits of the tape.
     ///
     /// It is [`CoinRoom::new`] and then [`Tape::draw`].

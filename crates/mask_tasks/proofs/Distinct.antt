@@ -2,11 +2,11 @@
 use Rattle.std.proofs.Common.{◌≡◌, ℕ, zero, suc, ◌<◌, Bool, true, false, ◌&&◌, not, List, [], ◌∷◌, length, get_or, refl, sym, ap, ◌∙◌, inl, inr, arith, lit<}
 use Rattle.std.specs.List.{list_all}
 use Rattle.std.specs.Str.{bytes_eq}
-use Rattle.std.proofs.lemmas.Bool.{cases_order}
+use Rattle.std.proofs.lemmas.Bool.{and_parts, cases_order}
 use Rattle.std.proofs.lemmas.List.Sums.{AllPass-from_list_all}
 use Rattle.std.proofs.lemmas.Slice.Eq.{bytes_eq-Decides}
 use Rattle.mask_tasks.specs.declared.names.Named.{Named}
-use Rattle.mask_tasks.specs.declared.names.Named.TheVariants.{Present80, Present128, Lea128, Lea192, Lea256, TriviumStart, TriviumStep, LightmacStep80, LightmacEnd80, LightmacStep128, LightmacEnd128, ChaskeyStart, ChaskeyStep, ChaskeyEndWhole, ChaskeyEndShort}
+use Rattle.mask_tasks.specs.declared.names.Named.TheVariants.{Present80, Present128, Refresh80, Refresh128}
 use Rattle.mask_tasks.specs.declared.names.TheConstants.{ALL}
 use Rattle.mask_tasks.specs.Names.{name_text}
 
@@ -16,19 +16,8 @@ name_at k = get_or ALL k Present80
 pub row_of : (name : Named) → (k : ℕ) × (k < length ALL) × (name_at k ≡ name)
 row_of Present80 = (0, lit< tt, refl)
 row_of Present128 = (1, lit< tt, refl)
-row_of Lea128 = (2, lit< tt, refl)
-row_of Lea192 = (3, lit< tt, refl)
-row_of Lea256 = (4, lit< tt, refl)
-row_of TriviumStart = (5, lit< tt, refl)
-row_of TriviumStep = (6, lit< tt, refl)
-row_of LightmacStep80 = (7, lit< tt, refl)
-row_of LightmacEnd80 = (8, lit< tt, refl)
-row_of LightmacStep128 = (9, lit< tt, refl)
-row_of LightmacEnd128 = (10, lit< tt, refl)
-row_of ChaskeyStart = (11, lit< tt, refl)
-row_of ChaskeyStep = (12, lit< tt, refl)
-row_of ChaskeyEndWhole = (13, lit< tt, refl)
-row_of ChaskeyEndShort = (14, lit< tt, refl)
+row_of Refresh80 = (2, lit< tt, refl)
+row_of Refresh128 = (3, lit< tt, refl)
 
 differ : Named → Named → Bool
 differ a b = not (bytes_eq (name_text a) (name_text b))
@@ -37,21 +26,13 @@ all_differ : List Named → Bool
 all_differ [] = true
 all_differ (a ∷ names) = list_all (λ b. differ a b) names && all_differ names
 
-and-left : (a b : Bool) → a && b ≡ true → a ≡ true
-and-left true b h = refl
-and-left false b h = h
-
-and-right : (a b : Bool) → a && b ≡ true → b ≡ true
-and-right true b h = h
-and-right false b h = cc
-
 differ_at : (names : List Named) (k l : ℕ) → all_differ names ≡ true → k < l → l < length names →
     differ (get_or names k Present80) (get_or names l Present80) ≡ true
 unfolding all_differ
 differ_at [] k l h lt within = absurd (omega arith)
 differ_at (a ∷ names) k zero h lt within = absurd (omega arith)
-differ_at (a ∷ names) zero (suc l) h lt within = AllPass-from_list_all (λ b. differ a b) names (and-left _ _ h) l Present80 (omega arith)
-differ_at (a ∷ names) (suc k) (suc l) h lt within = differ_at names k l (and-right _ _ h) (omega arith) (omega arith)
+differ_at (a ∷ names) zero (suc l) h lt within = AllPass-from_list_all (λ b. differ a b) names (and_parts _ _ h).0 l Present80 (omega arith)
+differ_at (a ∷ names) (suc k) (suc l) h lt within = differ_at names k l (and_parts _ _ h).1 (omega arith) (omega arith)
 
 all_names_differ : all_differ ALL ≡ true
 unfolding all_differ differ

@@ -7,40 +7,20 @@ ghost use Rattle.mask_tasks.specs.Names.{name_text, input_count, output_count, N
 /// A circuit that is built in.
 #[derive(Clone, Copy, Debug, PartialEq, Eq)]
 pub enum Named {
+    /// PRESENT in counter mode, on one block
     Present80,
     Present128,
-    Lea128,
-    Lea192,
-    Lea256,
-    TriviumStart,
-    TriviumStep,
-    LightmacStep80,
-    LightmacEnd80,
-    LightmacStep128,
-    LightmacEnd128,
-    ChaskeyStart,
-    ChaskeyStep,
-    ChaskeyEndWhole,
-    ChaskeyEndShort,
+    /// fresh shares of a key
+    Refresh80,
+    Refresh128,
 }
 
 /// All of them.
-pub const ALL: [Named; 15] = [
+pub const ALL: [Named; 4] = [
     Named::Present80,
     Named::Present128,
-    Named::Lea128,
-    Named::Lea192,
-    Named::Lea256,
-    Named::TriviumStart,
-    Named::TriviumStep,
-    Named::LightmacStep80,
-    Named::LightmacEnd80,
-    Named::LightmacStep128,
-    Named::LightmacEnd128,
-    Named::ChaskeyStart,
-    Named::ChaskeyStep,
-    Named::ChaskeyEndWhole,
-    Named::ChaskeyEndShort,
+    Named::Refresh80,
+    Named::Refresh128,
 ];
 
 impl Named {
@@ -51,19 +31,8 @@ impl Named {
         match self {
             Named::Present80 => "present-80",
             Named::Present128 => "present-128",
-            Named::Lea128 => "lea-128",
-            Named::Lea192 => "lea-192",
-            Named::Lea256 => "lea-256",
-            Named::TriviumStart => "trivium-start",
-            Named::TriviumStep => "trivium-step",
-            Named::LightmacStep80 => "lightmac-step-80",
-            Named::LightmacEnd80 => "lightmac-end-80",
-            Named::LightmacStep128 => "lightmac-step-128",
-            Named::LightmacEnd128 => "lightmac-end-128",
-            Named::ChaskeyStart => "chaskey-start",
-            Named::ChaskeyStep => "chaskey-step",
-            Named::ChaskeyEndWhole => "chaskey-end-whole",
-            Named::ChaskeyEndShort => "chaskey-end-short",
+            Named::Refresh80 => "refresh-80",
+            Named::Refresh128 => "refresh-128",
         }
     }
 
@@ -72,16 +41,10 @@ impl Named {
         ensures { result ≡ input_count self }
     {
         match self {
-            Named::Present80 | Named::LightmacStep80 | Named::LightmacEnd80 => 208,
-            Named::Present128 | Named::LightmacStep128 | Named::LightmacEnd128 => 256,
-            Named::Lea128 => 384,
-            Named::Lea192 => 448,
-            Named::Lea256 => 512,
-            Named::TriviumStart => 160,
-            Named::TriviumStep => 352,
-            Named::ChaskeyStart => 128,
-            Named::ChaskeyStep => 256,
-            Named::ChaskeyEndWhole | Named::ChaskeyEndShort => 384,
+            Named::Present80 => 208,
+            Named::Present128 => 256,
+            Named::Refresh80 => 80,
+            Named::Refresh128 => 128,
         }
     }
 
@@ -90,19 +53,9 @@ impl Named {
         ensures { result ≡ output_count self }
     {
         match self {
-            Named::Present80
-            | Named::Present128
-            | Named::LightmacStep80
-            | Named::LightmacEnd80
-            | Named::LightmacStep128
-            | Named::LightmacEnd128 => 64,
-            Named::TriviumStart => 288,
-            Named::TriviumStep => 352,
-            Named::Lea128 | Named::Lea192 | Named::Lea256 => 128,
-            Named::ChaskeyStart
-            | Named::ChaskeyStep
-            | Named::ChaskeyEndWhole
-            | Named::ChaskeyEndShort => 128,
+            Named::Present80 | Named::Present128 => 64,
+            Named::Refresh80 => 80,
+            Named::Refresh128 => 128,
         }
     }
 }

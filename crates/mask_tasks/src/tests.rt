@@ -1,30 +1,21 @@
-use crate::{KeySize, LeaSize, Named, Task, circuit_named, key_length, message_limit};
+use crate::{KeySize, Named, Task, circuit_named, key_length, message_limit};
 
 #[test]
 fn circuits_are_found_by_name(rt: HostRuntime) {
-    assert_eq!(rt; circuit_named("lea-192"), Some(Named::Lea192));
-    assert_eq!(rt;
-        circuit_named("chaskey-end-short"),
-        Some(Named::ChaskeyEndShort)
-    );
+    assert_eq!(rt; circuit_named("present-128"), Some(Named::Present128));
+    assert_eq!(rt; circuit_named("refresh-80"), Some(Named::Refresh80));
     assert_eq!(rt; circuit_named("present-64"), None);
-    assert_eq!(rt; Named::TriviumStep.inputs(), 352);
-    assert_eq!(rt; Named::TriviumStep.outputs(), 352);
+    assert_eq!(rt; Named::Present80.inputs(), 208);
+    assert_eq!(rt; Named::Present80.outputs(), 64);
+    assert_eq!(rt; Named::Refresh128.outputs(), 128);
 }
 
 #[test]
 fn tasks_have_lengths(rt: HostRuntime) {
-    let mac = Task::LightMac {
+    let cipher = Task::Present {
         size: KeySize::K80,
-        counter: 1,
-        tag: 8,
-    };
-    assert_eq!(rt; key_length(&mac), 20);
-    assert_eq!(rt; message_limit(&mac), 1_792);
-    let cipher = Task::Lea {
-        size: LeaSize::K192,
         iv: 0,
     };
-    assert_eq!(rt; key_length(&cipher), 24);
+    assert_eq!(rt; key_length(&cipher), 10);
     assert_eq!(rt; message_limit(&cipher), 268_435_456);
 }

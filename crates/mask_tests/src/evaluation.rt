@@ -201,7 +201,7 @@ fn refuses_words_that_are_no_job(rt: HostRuntime) -> Result<(), Fail> {
     let cases: [(&[&str], u32); 10] = [
         (&[], 1),
         (&["k", "t"], 3),
-        (&["k", "t", "enc", "des"], 3),
+        (&["k", "t", "enc", "des"], 4),
         (&["k", "seed:00", "check"], 2),
         (&["k", "t", "check", "more"], 4),
         (&["k", "t", "upgrade", "more"], 4),

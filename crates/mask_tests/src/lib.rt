@@ -5,9 +5,15 @@
 #[cfg(test)]
 mod checking;
 #[cfg(test)]
+mod emitting;
+#[cfg(test)]
+mod encrypting;
+#[cfg(test)]
 mod evaluation;
 #[cfg(test)]
 mod gadgets;
+#[cfg(test)]
+mod keys;
 #[cfg(test)]
 mod probing;
 #[cfg(test)]

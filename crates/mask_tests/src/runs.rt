@@ -25,7 +25,7 @@ pub struct Outcome {
     pub watch: ListWatch,
 }
 
-/// Runs the command with these words on an input and a tape, and room for so many bytes of output.
+/// Runs the command with these words on an input and a tape, and room for so many bytes of output. No key file can be read.
 pub fn run<S: Source, E: Entropy>(
     alloc: Global,
     words: &[&str],
@@ -33,29 +33,46 @@ pub fn run<S: Source, E: Entropy>(
     tape: &mut E,
     room: usize,
 ) -> Result<Outcome, AllocError> {
-    let words = words_of(alloc, words)?;
-    run_words::<S, E, Brand>(alloc, &words, input, tape, room, Blank::new(1))
+    let mut out = MemSink::new(alloc, room, 16, Vec::new(alloc))?;
+    run_on(
+        alloc,
+        words,
+        &mut ClosedSource::new(),
+        input,
+        tape,
+        &mut out,
+    )
 }
 
-fn run_words<S: Source, E: Entropy, L: Ledger>(
+/// Runs the command with these words on a key file, an input, a tape and an output.
+pub fn run_on<K: Source, S: Source, E: Entropy>(
     alloc: Global,
-    words: &Words,
+    words: &[&str],
+    keys: &mut K,
     input: &mut S,
     tape: &mut E,
-    room: usize,
+    out: &mut MemSink,
+) -> Result<Outcome, AllocError> {
+    let words = words_of(alloc, words)?;
+    run_words::<K, S, E, Brand>(alloc, &words, keys, input, tape, out, Blank::new(1))
+}
+
+fn run_words<K: Source, S: Source, E: Entropy, L: Ledger>(
+    alloc: Global,
+    words: &Words,
+    keys: &mut K,
+    input: &mut S,
+    tape: &mut E,
+    out: &mut MemSink,
     blank: Blank,
 ) -> Result<Outcome, AllocError>
     requires name { blank.name ≡ L.name }
     requires parts { blank.parts ≡ L.parts }
     requires some { 0 < L.parts }
 {
-    let mut keys = ClosedSource::new();
-    let mut out = MemSink::new(alloc, room, 16, Vec::new(alloc))?;
     let mut watch = ListWatch::new(alloc);
     let mut steps = Steps::<L>::new(blank);
-    let status = mask_main(
-        alloc, words, &mut keys, input, tape, &mut out, &mut watch, &mut steps,
-    );
+    let status = mask_main(alloc, words, keys, input, tape, out, &mut watch, &mut steps);
     Ok(Outcome {
         status,
         written: Vec::from_slice(alloc, out.bytes())?,

@@ -10,26 +10,21 @@ use Rattle.mask_circuit.specs.Ring.{bits}
 use Rattle.mask_circuit.specs.Wires.{each, on_first}
 use Rattle.mask_laws.specs.Sharing.{unshared}
 use Rattle.mask_laws.proofs.Bits.{xor-false}
-use Rattle.mask_laws.proofs.BitSums.{fold-xor, unmasked-each, total_same, total_none}
+use Rattle.mask_laws.proofs.BitSums.{fold-xor, unmasked-each, total_same, total_none, shared-unmasks}
 use Rattle.mask_laws.proofs.Unmasking.{outputs_unmask}
 use Rattle.mask_circuit.specs.Sharing.{listed, all_listed, shared, unmasked}
-use Rattle.mask_shares.proofs.Lists.{length-each, each-same}
-use Rattle.mask_gadget.proofs.Made.{map-each}
-use Rattle.mask_eval.proofs.Shared.{shared-unmasks}
+use Rattle.mask_circuit.proofs.Places.{length-each}
+use Rattle.mask_circuit.specs.Expansion.{draws, outs}
+use Rattle.mask_shares.proofs.Lists.{each-same, map-each, each-get_or, each-first}
+use Rattle.mask_eval.specs.Watching.{value_by_value}
 use Rattle.mask_trace.specs.Steps.{InputBit, Public, Plain, Key, State, Nothing, AsKey, AsState, Keeps, Registers, Step, IsThere, IsStrongStep, IsStrongPlan, Fit, kept, state_after, plain_bits, stretch}
 use Rattle.mask_trace.specs.Traces.{BitShares, input_shares, gate_tape, output_shares, evaluation, after_step, after, trace}
 use Rattle.mask_trace.specs.Values.{HasShares, values_of, input_value, step_value, value_after, states_after, RunsCompute, IsStrongEvaluation, TracesAreEvaluations, RunsAreComputed}
-use Rattle.mask_trace.proofs.Inputs.{each-get_or}
 use Rattle.mask_trace.proofs.RunWires.{length-gate_tape}
 use Rattle.mask_trace.proofs.StrongRuns.{length-kept}
 use Rattle.mask_trace.proofs.Traces.{bits_of-cons}
 
 -- SHARES
-
--- the first element stands apart
-each-first : {A : Type 0} (f : ℕ → A) (n : ℕ) → each f (suc n) ≡ f 0 ∷ each (λ i. f (suc i)) n
-each-first f zero = refl
-each-first f (suc n) = ap (λ (xs : List _). xs ++ f (suc n) ∷ []) (each-first f n)
 
 -- the first share and the others
 unmasked-first : (f : ℕ → Bool) (n : ℕ) → unmasked bits (each f (suc n)) ≡ xor (f 0) (unmasked bits (each (λ i. f (suc i)) n))
@@ -170,17 +165,22 @@ module _ (N k s : ℕ) (have : Registers BitShares) (t : Step) (r : List Bool) (
 
   -- a step is told as an evaluation
   evaluated : stretch N t ≤ length r → IsStrongEvaluation N (evaluation N have t r)
-  evaluated long = record {
-    order = refl;
-    formed = is.formed;
-    strong = is.strong;
-    shares = input_shares N have t.inputs r;
-    count = length-input_shares N have t.inputs r ∙ is.count;
-    sizes = all_shares N k s have has some t.inputs r is.there (omega arith);
-    inputs = refl;
-    tape = length-gate_tape N t r long;
-    outputs = refl;
-  }
+  evaluated long =
+      let shares = input_shares N have t.inputs r in
+      let one_more : N ≡ suc (pred N) = omega arith in
+      record {
+        order = refl;
+        formed = is.formed;
+        strong = is.strong;
+        evaluation = record {
+          shares = shares;
+          count = length-input_shares N have t.inputs r ∙ is.count;
+          sizes = λ i d lt. all_shares N k s have has some t.inputs r is.there (omega arith) i d lt ∙ one_more;
+          inputs = refl;
+          tape = length-gate_tape N t r long ∙ ap (draws t.circuit) one_more;
+          outputs = ap (λ (n : ℕ). value_by_value (outs bits t.circuit n (all_listed bits shares) (gate_tape N t r))) one_more;
+        };
+      }
 
 -- RUNS
 

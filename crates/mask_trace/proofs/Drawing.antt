@@ -1,26 +1,17 @@
 -- What is drawn and told in two parts, and what a tape's own contract says of it.
-use Rattle.std.proofs.Common.{◌≡◌, ℕ, zero, suc, ◌+◌, ◌<◌, Bool, List, [], ◌∷◌, ◌++◌, length, take, drop, Some, None, refl, ap, ap₂, sym, subst, ◌∙◌, arith, append_assoc, length-append, length-drop}
+use Rattle.std.proofs.Common.{◌≡◌, ℕ, zero, suc, ◌+◌, ◌<◌, Bool, List, [], ◌∷◌, ◌++◌, length, take, drop, refl, ap, ap₂, sym, subst, ◌∙◌, arith, append_assoc, length-append, length-drop}
 use Rattle.std.specs.declared.option.Option.{Option}
 use Rattle.std.proofs.KnownBytes.{Consumes-nil, Consumes-trans}
 use Rattle.std.proofs.lemmas.List.{append-nil, drop-append-le, drop-drop, take-append-le, take_all}
 use Rattle.mask_bits.specs.Reading.{low}
 use Rattle.mask_bits.proofs.Bytes.{low-append, length-low}
+use Rattle.mask_gadget.proofs.Telling.{told_more-none, told_more-more}
 use Rattle.mask_eval.specs.Watching.{Told, told_more}
 use Rattle.mask_trace.specs.Steps.{Registers, Step, stretch, bits_of}
 use Rattle.mask_trace.specs.Traces.{BitShares, evaluation, after_step, after, trace}
 use Rattle.mask_trace.specs.Drawing.{Stand, Drew, Ran}
 use Rattle.mask_trace.specs.Laws.{RunsJoin, DrawsJoin, PartsAreBeginnings, DrawnIsDrew}
 use Rattle.mask_trace.proofs.Traces.{traces_split, tape_is_enough}
-
--- TELLING
-
-pub told_more-none : (told : Option (List Told)) → told_more told [] ≡ told
-told_more-none None = refl
-told_more-none (Some told) = ap Some (append-nil told)
-
-pub told_more-more : (told : Option (List Told)) (xs ys : List Told) → told_more (told_more told xs) ys ≡ told_more told (xs ++ ys)
-told_more-more None xs ys = refl
-told_more-more (Some told) xs ys = ap Some (append_assoc told xs ys)
 
 -- DRAWING
 
@@ -85,7 +76,7 @@ none N have a small = record {
     fewest = let same = ap length (append-nil a.kept) in omega arith;
     kept = sym (append-nil a.kept);
   };
-  tells = sym (told_more-none a.told);
+  tells = told_more-none a.told;
   holds = refl;
 }
 

@@ -1,13 +1,13 @@
 -- The shares of inputs part by part, and lane by lane.
 use Rattle.std.proofs.Common.{◌≡◌, ℕ, zero, suc, pred, ◌+◌, ◌*◌, Bool, true, false, cond, ◌==◌, List, [], ◌∷◌, ◌++◌, map, length, take, drop, get_or, refl, ap, ap₂, sym, ◌∙◌, arith}
-use Rattle.std.proofs.lemmas.List.{map-append, drop-drop, ext_get_or}
+use Rattle.std.proofs.lemmas.List.{map-append, drop-drop}
 use Rattle.mask_bits.specs.Reading.{bit}
 use Rattle.mask_bits.specs.Lanes.{lane}
 use Rattle.mask_circuit.specs.Ring.{bits, words}
 use Rattle.mask_circuit.specs.Wires.{each, on_first}
 use Rattle.mask_circuit.specs.Sharing.{shared, all_shared}
 use Rattle.mask_tape.proofs.Lanes.{bit-nought}
-use Rattle.mask_shares.proofs.Lists.{length-each, get_or-each}
+use Rattle.mask_shares.proofs.Lists.{each-get_or}
 use Rattle.mask_eval.proofs.Shared.{all_shared_in_lane}
 use Rattle.mask_trace.specs.Steps.{InputBit, Public, Plain, Key, State, Registers, plain_bits}
 use Rattle.mask_trace.specs.Traces.{BitShares, input_shares}
@@ -42,12 +42,6 @@ bits_of_key (suc n) = bits_of_both (each Key n) (Key n ∷ []) ∙ ap (λ (bs : 
 bits_of_state : (n : ℕ) → plain_bits (each State n) ≡ []
 bits_of_state zero = refl
 bits_of_state (suc n) = bits_of_both (each State n) (State n ∷ []) ∙ ap (λ (bs : List Bool). bs ++ []) (bits_of_state n)
-
--- a list is made by its own elements
-pub each-get_or : {A : Type 0} (xs : List A) (d : A) → each (λ i. get_or xs i d) (length xs) ≡ xs
-each-get_or xs d =
-    let count = length-each (λ i. get_or xs i d) (length xs) in
-    ext_get_or d (each (λ i. get_or xs i d) (length xs)) xs count (λ i lt. get_or-each (λ j. get_or xs j d) (length xs) i d (omega arith))
 
 keys : (N : ℕ) (have : Registers BitShares) (n : ℕ) (r : List Bool) → input_shares N have (each Key n) r ≡ each (λ k. get_or have.key k []) n
 keys N have zero r = refl

@@ -9,11 +9,12 @@ use Rattle.mask_circuit.specs.Wires.{Shares, each, on_first}
 use Rattle.mask_circuit.specs.Expansion.{shares_of, expand, draws, outs, wires}
 use Rattle.mask_circuit.specs.Sharing.{listed, all_listed, shared, all_shared}
 use Rattle.mask_circuit.specs.Acceptance.{output_at}
-use Rattle.mask_shares.proofs.Lists.{length-each, get_or-each}
+use Rattle.mask_circuit.proofs.Places.{length-each}
+use Rattle.mask_shares.proofs.Lists.{get_or-each}
 use Rattle.mask_laws.specs.Runs.{Origin, Public, Variable, Output, Call, Outputs, Evaluation, no_outputs, origin_shares, call_inputs, call_draws, evaluation, evaluation_wires, with_outputs, evaluations_from, run_wires}
-use Rattle.mask_laws.proofs.Sharings.{all_shared-take}
+use Rattle.mask_laws.proofs.Sharings.{all_shared-take, length-all_shared}
 use Rattle.mask_laws.proofs.Shifts.{take_front, drop_front}
-use Rattle.mask_eval.specs.Frames.{SameShares}
+use Rattle.mask_laws.specs.Sharing.{SameShares}
 use Rattle.mask_trace.specs.Steps as steps
 use Rattle.mask_trace.specs.Traces.{BitShares, input_shares, gate_tape, output_shares, after_step}
 use Rattle.mask_trace.specs.Calls.{origins, outputs_of, calls_from, calls_of, with_key, message_bits, message_coins, gate_coins, variables}
@@ -23,10 +24,6 @@ use Rattle.mask_trace.proofs.StrongRuns.{IsKnown, IsHeld, held, origin_held, Are
 use Rattle.mask_trace.proofs.SameWires.{wires-same, values-same}
 
 -- SHARES OF TWO PARTS
-
-pub length-all_shared : (d : ℕ) (xs coins : List Bool) → length (all_shared bits d xs coins) ≡ length xs
-length-all_shared d [] coins = refl
-length-all_shared d (x ∷ xs) coins = ap suc (length-all_shared d xs (drop d coins))
 
 pub all_shared-append : (d : ℕ) (xs ys a b : List Bool) → length a ≡ d * length xs → all_shared bits d (xs ++ ys) (a ++ b) ≡ all_shared bits d xs a ++ all_shared bits d ys b
 all_shared-append d [] ys [] b long = refl
@@ -140,7 +137,7 @@ module _ (N : ℕ) (x : ℕ → Shares Bool) (t : steps.Step) (ts : List steps.S
 
   own_shared : (p i : ℕ) → p < length (steps.plain_bits t.inputs) → i < N → x (v + p) i ≡ all_listed bits (all_shared bits (pred N) (steps.plain_bits t.inputs) r) p i
   own_shared p i lt small =
-      let size = length-all_shared (pred N) (steps.plain_bits t.inputs) r in
+      let size = length-all_shared bits (pred N) (steps.plain_bits t.inputs) r in
       are p i (omega (arith, count)) small
       ∙ ap (λ (ss : List BitShares). all_listed bits ss p i) parts
       ∙ ap (λ (ss : BitShares). listed bits ss i) (get_or_append_left (all_shared bits (pred N) (steps.plain_bits t.inputs) r) _ [] p (omega arith))
@@ -150,7 +147,7 @@ module _ (N : ℕ) (x : ℕ → Shares Bool) (t : steps.Step) (ts : List steps.S
   rest_shared p i lt small =
       let n = length (steps.plain_bits t.inputs) in
       let front = all_shared bits (pred N) (steps.plain_bits t.inputs) r in
-      let size = length-all_shared (pred N) (steps.plain_bits t.inputs) r in
+      let size = length-all_shared bits (pred N) (steps.plain_bits t.inputs) r in
       let place : v + n + p ≡ v + (n + p) = omega arith in
       let same : n + p ≡ length front + p = omega arith in
       ap (λ (w : ℕ). x w i) place

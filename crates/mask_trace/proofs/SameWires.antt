@@ -7,8 +7,9 @@ use Rattle.mask_circuit.specs.declared.gates.Wire.TheVariants.{Share}
 use Rattle.mask_circuit.specs.Wires.{Shares, each, joined}
 use Rattle.mask_circuit.specs.Expansion.{CircuitWire, shares_of, start, expand, names_from, wires}
 use Rattle.mask_laws.proofs.Carrying.{run-earlier}
-use Rattle.mask_gadget.proofs.Made.{map-each, map-joined, each-same, joined-same}
-use Rattle.mask_eval.specs.Frames.{SameShares}
+use Rattle.mask_laws.specs.Sharing.{SameShares}
+use Rattle.mask_shares.proofs.Lists.{map-each, each-same}
+use Rattle.mask_gadget.proofs.Made.{map-joined, joined-same}
 use Rattle.mask_eval.specs.Telling.{wires_from}
 use Rattle.mask_eval.proofs.Runs.{run-same}
 use Rattle.mask_eval.proofs.Told.{wires_from-same, named_from}

@@ -8,13 +8,14 @@ use Rattle.mask_laws.specs.Runs.{Call, run_draws, run_seen, run_hits, private_ru
 use Rattle.mask_laws.proofs.Hiding.{strong_run_is_private}
 use Rattle.mask_laws.proofs.Running.{run_needs}
 use Rattle.mask_laws.proofs.Tapes.{sum_over_tapes-same, sum_over_tapes-add}
+use Rattle.mask_laws.proofs.Sharings.{length-all_shared}
 use Rattle.mask_trace.specs.Steps as steps
 use Rattle.mask_trace.specs.Traces.{BitShares}
 use Rattle.mask_trace.specs.Calls.{calls_of, with_key, message_bits, message_coins, gate_coins}
 use Rattle.mask_trace.specs.Privacy.{trace_seen, key_shared, trace_hits}
 use Rattle.mask_trace.specs.Laws.{PlansAreRuns, PlansArePrivate}
 use Rattle.mask_trace.proofs.Alike.{calls-alike, messages-alike, plan-alike}
-use Rattle.mask_trace.proofs.RunWires.{length-all_shared, all_shared-append, run_wires-plan}
+use Rattle.mask_trace.proofs.RunWires.{all_shared-append, run_wires-plan}
 use Rattle.mask_trace.proofs.StrongRuns.{plans_are_strong_runs}
 use Rattle.mask_trace.proofs.Woven.{gate_count, run_draws-plan, length-gate_coins, sum_over_tapes-woven}
 
@@ -47,7 +48,7 @@ module _ (N n : ℕ) (ss : List steps.Step) (two : 2 ≤ N) (plan : steps.IsStro
       hit (trace_seen N (key_shared N key coins) ss r P) ≡ shown coins (message_coins N ss r) (gate_coins N ss r)
   seen-same coins r long =
       ap (λ (ws : List Bool). hit (map (λ p. get_or ws p false) P))
-      (sym (run_wires-plan N n ss (all_shared bits d key coins) r two plan (length-all_shared d key coins ∙ count) (omega arith)))
+      (sym (run_wires-plan N n ss (all_shared bits d key coins) r two plan (length-all_shared bits d key coins ∙ count) (omega arith)))
 
   -- the coins of the key and of the message share all variables
   variables-shared : (coins message gates : List Bool) → length coins ≡ d * length key →

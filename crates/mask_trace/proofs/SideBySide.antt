@@ -1,7 +1,8 @@
 -- What one evaluation in lanes tells is the trace of the steps in its lanes.
-use Rattle.std.proofs.Common.{◌≡◌, ℕ, zero, suc, pred, ◌+◌, ◌-◌, ◌*◌, ◌<◌, Bool, List, [], ◌∷◌, ◌++◌, map, take, drop, refl, ap, ap₂, sym, subst, ◌∙◌, arith}
+use Rattle.std.proofs.Common.{◌≡◌, ℕ, zero, suc, ◌+◌, ◌-◌, ◌*◌, ◌<◌, Bool, List, [], ◌∷◌, ◌++◌, map, take, drop, refl, ap, ap₂, sym, subst, ◌∙◌, arith}
 use Rattle.std.specs.List.{concat}
-use Rattle.std.proofs.lemmas.List.{map-append, take-map, drop-map}
+use Rattle.std.proofs.lemmas.List.{take-map, drop-map}
+use Rattle.std.proofs.Math.Numerals.{sub-one}
 use Rattle.mask_bits.specs.Reading.{bit, low}
 use Rattle.mask_bits.specs.Lanes.{lane}
 use Rattle.mask_circuit.specs.Netlist.{Netlist}
@@ -10,9 +11,10 @@ use Rattle.mask_circuit.specs.Wires.{each}
 use Rattle.mask_circuit.specs.Expansion.{draws, outs}
 use Rattle.mask_circuit.specs.Sharing.{all_listed}
 use Rattle.mask_shares.proofs.Lists.{each-same}
-use Rattle.mask_eval.specs.Watching.{Told, told_more, reports}
+use Rattle.mask_eval.specs.Watching.{Told, told_more, reports, value_by_value}
+use Rattle.mask_eval.proofs.Shared.{lane-concat}
 use Rattle.mask_trace.specs.Steps.{Nothing, Registers, Step, kept, stretch, bits_of}
-use Rattle.mask_trace.specs.Traces.{BitShares, value_by_value, input_shares, output_shares, evaluation, after_step, after, trace}
+use Rattle.mask_trace.specs.Traces.{BitShares, input_shares, output_shares, evaluation, after_step, after, trace}
 use Rattle.mask_trace.specs.Drawing.{Stand, Drew}
 use Rattle.mask_trace.specs.Lanes.{RanInLanes, LanesAreSteps, LaneIsStep}
 use Rattle.mask_trace.proofs.Traces.{traces_split, bits_of-cons, evaluation-take, output_shares-take}
@@ -60,17 +62,8 @@ module _ (N n : ℕ) (have : Registers BitShares) (step : ℕ → Step) (r : Lis
 
 -- LANES
 
--- the words of all values in a lane
-pub lane-concat : (l : ℕ) (values : List (List ℕ)) → lane l (concat values) ≡ value_by_value (map (lane l) values)
-lane-concat l [] = refl
-lane-concat l (value ∷ values) = map-append (bit l) value (concat values) ∙ ap (λ (bs : List Bool). lane l value ++ bs) (lane-concat l values)
-
 lane-part : (l m n : ℕ) (coins : List ℕ) → lane l (take n (drop m coins)) ≡ take n (drop m (lane l coins))
 lane-part l m n coins = sym (take-map (bit l) n (drop m coins)) ∙ ap (take n) (sym (drop-map (bit l) m coins))
-
-order-is : (N : ℕ) → N - 1 ≡ pred N
-order-is zero = refl
-order-is (suc N) = omega arith
 
 -- an evaluation as a watch is told it
 abbrev told_as : Netlist → ℕ → List Bool → List Bool → List Bool → Told
@@ -106,7 +99,7 @@ module _ (N m lanes : ℕ) (c : Netlist) (have : Registers BitShares) (step : �
   told-lane : (l : ℕ) → l < lanes →
       told_as c (N - 1) (lane l (concat inputs)) (lane l (take (draws c N) (drop m coins))) (lane l (concat outputs)) ≡ evaluation N have (step l) (lane l coins)
   told-lane l lt =
-      same_told _ _ _ _ _ _ _ _ _ _ (sym (ran.circuit l lt)) (order-is N)
+      same_told _ _ _ _ _ _ _ _ _ _ (sym (ran.circuit l lt)) (sub-one N)
       (lane-concat l inputs ∙ ap value_by_value (ran.inputs_are l lt))
       (lane-part l m (draws c N) coins
       ∙ ap₂ (λ (d : Netlist) (k : ℕ). take (draws d N) (drop k (lane l coins))) (sym (ran.circuit l lt)) (sym (ran.sharing l lt)))

@@ -1,25 +1,15 @@
 -- A strong plan, and a plan that isn't one and leaks its key, computed.
-use Rattle.std.proofs.Common.{◌≡◌, ℕ, zero, suc, ◌<◌, ◌≤◌, inl, inr, true, false, List, [], ◌∷◌, Some, None, map, refl, arith}
-use Rattle.std.specs.declared.option.Option.{Option}
+use Rattle.std.proofs.Common.{◌≡◌, ℕ, zero, suc, ◌<◌, inl, inr, true, false, List, [], ◌∷◌, map, refl, arith}
 use Rattle.std.proofs.lemmas.List.Elements.{All-nil, All-cons}
-use Rattle.mask_circuit.specs.declared.gates.Gate.{Gate}
-use Rattle.mask_circuit.specs.Netlist.{Netlist, IsWellFormed, value_count}
+use Rattle.mask_circuit.specs.Netlist.{IsWellFormed}
 use Rattle.mask_circuit.specs.Acceptance.{gate_at, Uses, IsAccepted, IsFenced}
-use Rattle.mask_circuit.proofs.GateAt.{gate_at_within}
 use Rattle.mask_laws.specs.Clashes.{reach, clash}
 use Rattle.mask_laws.specs.Refutations.{refreshed_product}
 use Rattle.mask_laws.proofs.Clashing.{clash_decides}
+use Rattle.mask_laws.proofs.RunExamples.{past_gates}
 use Rattle.mask_trace.specs.Steps.{Public, Plain, Key, State, Nothing, Step, IsThere, IsNotHeld, input_at, IsStrongStep, IsStrongPlan}
 use Rattle.mask_trace.specs.Privacy.{trace_wires, trace_hits}
 use Rattle.mask_trace.proofs.TraceExamples.{mixed, refresh, first, second, third, plan}
-
--- no gate past the last one uses a value
-past_gates : (c : Netlist) (v u : ℕ) → value_count c ≤ v → Uses u (gate_at c v) → ⊥
-past_gates c v u past h = go (gate_at c v) refl h
-  where
-    go : (o : Option Gate) → gate_at c v ≡ o → Uses u o → ⊥
-    go None e used = used
-    go (Some g) e used = let within = gate_at_within c v g e in absurd (omega arith)
 
 -- THE CIRCUITS
 

@@ -5,7 +5,8 @@ use Rattle.std.proofs.lemmas.List.{get_or_append_left, get_or-append_right, get_
 use Rattle.std.proofs.lemmas.List.Elements.{All-nil, All-cons}
 use Rattle.mask_circuit.specs.Netlist.{Netlist}
 use Rattle.mask_circuit.specs.Wires.{each}
-use Rattle.mask_shares.proofs.Lists.{length-each, get_or-each}
+use Rattle.mask_circuit.proofs.Places.{length-each}
+use Rattle.mask_shares.proofs.Lists.{get_or-each}
 use Rattle.mask_laws.specs.Runs.{Origin, Public, Variable, Output, IsPublic, IsThere, AreStrongCalls, IsStrongRun}
 use Rattle.mask_trace.specs.Steps as steps
 use Rattle.mask_trace.specs.Calls.{origins, outputs_of, calls_from, calls_of, with_key}

@@ -6,9 +6,9 @@ use Rattle.mask_circuit.specs.Ring.{bits}
 use Rattle.mask_circuit.specs.Wires.{each, on_first}
 use Rattle.mask_circuit.specs.Expansion.{draws, outs}
 use Rattle.mask_circuit.specs.Sharing.{all_listed, shared}
-use Rattle.mask_eval.specs.Watching.{Told}
+use Rattle.mask_eval.specs.Watching.{Told, value_by_value}
 use Rattle.mask_trace.specs.Steps.{InputBit, Public, Plain, Key, State, Registers, Step, plain_bits, kept, sharing_bits, stretch, bits_of}
-use Rattle.mask_trace.specs.Traces.{BitShares, input_shares, gate_tape, value_by_value, output_shares, evaluation, after_step, after, trace}
+use Rattle.mask_trace.specs.Traces.{BitShares, input_shares, gate_tape, output_shares, evaluation, after_step, after, trace}
 use Rattle.mask_trace.specs.Laws.{TracesSplit, TapeIsEnough}
 
 -- SPLITTING

@@ -1,11 +1,10 @@
 -- The trace of a run: the evaluations of its steps, each with the next stretch of the tape.
 use Rattle.std.specs.Prelude.{ℕ, pred, Bool, List, [], ◌∷◌, take, drop, slice_index_or}
-use Rattle.std.specs.List.{flat_map}
 use Rattle.mask_circuit.specs.Ring.{bits}
 use Rattle.mask_circuit.specs.Wires.{each, on_first}
 use Rattle.mask_circuit.specs.Expansion.{draws, outs}
 use Rattle.mask_circuit.specs.Sharing.{all_listed, shared}
-use Rattle.mask_eval.specs.Watching.{Told}
+use Rattle.mask_eval.specs.Watching.{Told, value_by_value}
 use Rattle.mask_trace.specs.Steps.{InputBit, Public, Plain, Key, State, Registers, Step, kept, sharing_bits, stretch}
 
 -- The shares of a bit, share 0 first.
@@ -27,10 +26,6 @@ gate_tape N s r = take (draws s.circuit N) (drop (sharing_bits N s) r)
 -- the shares of the outputs of the step
 abbrev pub output_shares : ℕ → Registers BitShares → Step → List Bool → List BitShares
 output_shares N have s r = outs bits s.circuit N (all_listed bits (input_shares N have s.inputs r)) (gate_tape N s r)
-
--- the shares of all values, one value after another
-abbrev pub value_by_value : List BitShares → List Bool
-value_by_value values = flat_map (λ shares. shares) values
 
 -- the evaluation of the step, as a watch is told it
 abbrev pub evaluation : ℕ → Registers BitShares → Step → List Bool → Told

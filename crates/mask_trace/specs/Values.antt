@@ -3,12 +3,11 @@ use Rattle.std.specs.Prelude.{◌≡◌, ℕ, pred, ◌≤◌, Bool, false, List
 use Rattle.mask_circuit.specs.Netlist.{IsWellFormed}
 use Rattle.mask_circuit.specs.Value.{plain}
 use Rattle.mask_circuit.specs.Ring.{bits}
-use Rattle.mask_circuit.specs.Expansion.{draws, outs}
 use Rattle.mask_circuit.specs.Acceptance.{IsStrong}
-use Rattle.mask_circuit.specs.Sharing.{all_listed, unmasked}
-use Rattle.mask_eval.specs.Watching.{Told, told_more}
+use Rattle.mask_circuit.specs.Sharing.{unmasked}
+use Rattle.mask_eval.specs.Watching.{Told, told_more, IsEvaluation}
 use Rattle.mask_trace.specs.Steps.{InputBit, Public, Plain, Key, State, Registers, Step, kept, state_after, bits_of, IsStrongStep, IsStrongPlan}
-use Rattle.mask_trace.specs.Traces.{BitShares, value_by_value, output_shares, after, trace}
+use Rattle.mask_trace.specs.Traces.{BitShares, output_shares, after, trace}
 use Rattle.mask_trace.specs.Drawing.{Stand, Ran}
 
 -- The registers have k and s bits, in N shares each.
@@ -50,18 +49,12 @@ pub record RunsCompute : Type 0 where
   pub registers : (N k s : ℕ) (have : Registers BitShares) (ss : List Step) (r : List Bool) → 1 ≤ N → IsStrongPlan k s ss → HasShares N k s have →
       HasShares N k (states_after s ss) (after N have ss r) × (values_of (after N have ss r) ≡ value_after (values_of have) ss)
 
--- What was told is an evaluation of a strong circuit: the circuit expanded into N shares takes the told shares of the
--- inputs, value by value, to the told shares of the outputs, with the told bits as its tape.
+-- What was told is an evaluation of a strong circuit on N shares.
 pub record IsStrongEvaluation (N : ℕ) (t : Told) : Type 0 where
   pub order : t.order ≡ pred N
   pub formed : IsWellFormed t.circuit
   pub strong : IsStrong t.circuit
-  pub shares : List BitShares
-  pub count : length shares ≡ t.circuit.inputs
-  pub sizes : All (λ value. length value ≡ N) shares
-  pub inputs : t.inputs ≡ value_by_value shares
-  pub tape : length t.tape ≡ draws t.circuit N
-  pub outputs : t.outputs ≡ value_by_value (outs bits t.circuit N (all_listed bits shares) t.tape)
+  pub evaluation : IsEvaluation t
 
 -- A strong plan is told as evaluations of strong circuits, where the tape is long enough.
 abbrev pub TracesAreEvaluations : Type 0

@@ -2,7 +2,7 @@
 use Rattle.std.proofs.Common.{◌≡◌, ℕ, zero, suc, ◌<◌, Bool, true, false, ◌&&◌, ◌||◌, not, Option, None, Some, List, [], ◌∷◌, length, get_or, refl, sym, ap, ◌∙◌, subst, inl, inr, arith}
 use Rattle.std.specs.List.{list_all}
 use Rattle.std.specs.Str.{bytes_eq}
-use Rattle.std.proofs.lemmas.Bool.{cases_order}
+use Rattle.std.proofs.lemmas.Bool.{and_parts, cases_order}
 use Rattle.std.proofs.lemmas.List.Sums.{AllPass-from_list_all}
 use Rattle.std.proofs.lemmas.Slice.Eq.{bytes_eq-Decides}
 use Rattle.mask_words.specs.declared.word_tests.Test.{Test}
@@ -63,21 +63,13 @@ abbrev pub all_apart : List Form → Bool
 all_apart [] = true
 all_apart (f ∷ fs) = list_all (λ g. are_apart f g) fs && all_apart fs
 
-and-left : (a b : Bool) → a && b ≡ true → a ≡ true
-and-left true b h = refl
-and-left false b h = h
-
-and-right : (a b : Bool) → a && b ≡ true → b ≡ true
-and-right true b h = h
-and-right false b h = cc
-
 apart_at : (fs : List Form) (k l : ℕ) → all_apart fs ≡ true → k < l → l < length fs →
-    are_apart (get_or fs k forms.Eval) (get_or fs l forms.Eval) ≡ true
+    are_apart (get_or fs k forms.EncPresent) (get_or fs l forms.EncPresent) ≡ true
 apart_at [] k l h lt within = absurd (omega arith)
 apart_at (f ∷ fs) k zero h lt within = absurd (omega arith)
 apart_at (f ∷ fs) zero (suc l) h lt within =
-    AllPass-from_list_all (λ g. are_apart f g) fs (and-left _ _ h) l forms.Eval (omega arith)
-apart_at (f ∷ fs) (suc k) (suc l) h lt within = apart_at fs k l (and-right _ _ h) (omega arith) (omega arith)
+    AllPass-from_list_all (λ g. are_apart f g) fs (and_parts _ _ h).0 l forms.EncPresent (omega arith)
+apart_at (f ∷ fs) (suc k) (suc l) h lt within = apart_at fs k l (and_parts _ _ h).1 (omega arith) (omega arith)
 
 -- the table's own rows
 rows_are_apart : all_apart FORMS ≡ true

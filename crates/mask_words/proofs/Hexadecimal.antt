@@ -1,11 +1,17 @@
--- Hexadecimal digits as std tests them and as they are decoded.
-use Rattle.std.proofs.Common.{◌≡◌, ℕ, ◌-◌, Bool, true, false, ◌||◌, get_or, if◌then◌else◌, Some, None, refl}
+-- Hexadecimal digits as std tests them, as they are decoded, and as they are read as a number.
+use Rattle.std.proofs.Common.{◌≡◌, ◌≢◌, ℕ, ◌-◌, ◌^◌, ◌<◌, ◌≤◌, Bool, true, false, ◌||◌, [], ◌∷◌, length, get_or, if◌then◌else◌, Some, None, Result, Ok, Err, refl, ap, arith}
+use Rattle.std.proofs.lemmas.Bool.{and_parts, eqb-true}
+use Rattle.std.proofs.lemmas.Bool.Decides.{nat_tests}
+use Rattle.std.proofs.lemmas.Int.Digits.{digits_value-lt}
 use Rattle.std.proofs.lemmas.List.Sums.{AllPass-from_list_all}
 use Rattle.std.specs.Prelude.{is_some}
 use Rattle.std.specs.List.{AllPass}
-use Rattle.std.specs.Char.{is_ascii_hexdigit}
+use Rattle.std.specs.Char.{is_ascii_hexdigit, digit_value}
+use Rattle.std.specs.Str.Parse.{AllDigits, IsNumeral, digits_value, ParsesUnsigned}
+use Rattle.std.specs.Result.{OkIff}
+use Rattle.std.proofs.lemmas.Str.Parse.{without_leading_plus_none}
 use Rattle.hex.specs.Hex.{is_hex_digit}
-use Rattle.mask_words.specs.WordTests.{Word, are_hex_digits}
+use Rattle.mask_words.specs.WordTests.{Word, are_hex_digits, are_digits}
 
 -- three ranges of digits, in one order and another
 any_range : (upper lower number : Bool) (x y z : ℕ) → (number || upper) || lower ≡ true →
@@ -20,3 +26,34 @@ is_digit c h = any_range _ _ _ (c - 55) (c - 87) (c - 48) h
 
 pub digits_decode : (w : Word) → are_hex_digits w ≡ true → AllPass is_hex_digit w
 digits_decode w h k d at = is_digit (get_or w k d) (AllPass-from_list_all is_ascii_hexdigit w h k d at)
+
+digit_value-hex : (c : ℕ) → is_ascii_hexdigit c ≡ true → digit_value c < 16
+digit_value-hex c h = grind (arith, nat_tests)
+
+AllDigits-hex : (w : Word) → are_hex_digits w ≡ true → AllDigits 16 w
+AllDigits-hex [] h = tt
+AllDigits-hex (c ∷ cs) h = let two = and_parts _ _ h in (digit_value-hex c two.0, AllDigits-hex cs two.1)
+
+no_plus : (w : Word) → AllDigits 16 w → get_or w 0 0 ≢ 43
+no_plus [] all e = cc
+no_plus (c ∷ cs) all e = let first = rw e at all.0 in absurd (omega (arith, first))
+
+-- n digits parse to the number that they spell, if k bits hold n digits
+parse-digits : {E : Type 0} (n k : ℕ) (w : Word) (r : Result ℕ E) → ParsesUnsigned k 16 w r → are_digits n w ≡ true → 0 < n → 16 ^ n ≤ 2 ^ k →
+    r ≡ Ok (digits_value 16 w)
+parse-digits {E = E} n k w r parsed is some fits =
+    let two = and_parts _ _ is in
+    let long : length w ≡ n = eqb-true _ _ two.0 in
+    let all = AllDigits-hex w two.1 in
+    let below : digits_value 16 w < 16 ^ n = rw long at (digits_value-lt 16 w all) in
+    let plain = rw (without_leading_plus_none w (no_plus w all)) at parsed in
+    given r plain ((omega arith, all), omega arith)
+  where
+    given : (s : Result ℕ E) → OkIff s (IsNumeral 16 w × (digits_value 16 w < 2 ^ k)) (digits_value 16 w) → IsNumeral 16 w × (digits_value 16 w < 2 ^ k) →
+        s ≡ Ok (digits_value 16 w)
+    given (Ok x) h holds = ap Ok h.1
+    given (Err e) h holds = absurd (h holds)
+
+-- 16 digits of 4 bits are 64 bits
+pub parse-64_bits : {E : Type 0} (w : Word) (r : Result ℕ E) → ParsesUnsigned 64 16 w r → are_digits 16 w ≡ true → r ≡ Ok (digits_value 16 w)
+parse-64_bits w r parsed is = parse-digits 16 64 w r parsed is (omega arith) (omega arith)

@@ -13,12 +13,17 @@ order_of-bounds : (w : Word) → is_order w ≡ true → (1 ≤ order_of w) × (
 order_of-bounds w h = grind (arith, nat_tests)
 
 pub HasOrder-job_of : (f : Form) (ws : List Word) → Match (tests_of f) (tail_of f) ws → HasOrder (job_of f ws)
+HasOrder-job_of forms.EncPresent ws m = order_of-bounds (get_or ws 4 []) (Match-at (tests_of forms.EncPresent) None ws 4 m (lit< tt))
 HasOrder-job_of forms.Eval ws m = order_of-bounds (get_or ws 3 []) (Match-at (tests_of forms.Eval) None ws 3 m (lit< tt))
 HasOrder-job_of forms.Check ws m = tt
 HasOrder-job_of forms.Upgrade ws m = tt
 HasOrder-job_of forms.Probe ws m = order_of-bounds (get_or ws 3 []) (Match-at (tests_of forms.Probe) (tail_of forms.Probe) ws 3 m (lit< tt))
+HasOrder-job_of forms.Split ws m = order_of-bounds (get_or ws 3 []) (Match-at (tests_of forms.Split) None ws 3 m (lit< tt))
+HasOrder-job_of forms.Join ws m = order_of-bounds (get_or ws 3 []) (Match-at (tests_of forms.Join) None ws 3 m (lit< tt))
+HasOrder-job_of forms.Emit ws m = tt
 
 pub HasWords-job_of : (f : Form) (ws : List Word) → Match (tests_of f) (tail_of f) ws → HasWords ws (job_of f ws)
+HasWords-job_of forms.EncPresent ws m = tt
 HasWords-job_of forms.Eval ws m = record {
   count = Match-length (tests_of forms.Eval) ws m;
   order_word = refl;
@@ -31,3 +36,6 @@ HasWords-job_of forms.Probe ws m = record {
   order_word = refl;
   wire_words = λ k h l. Match-past (tests_of forms.Probe) Wire ws k m h l;
 }
+HasWords-job_of forms.Split ws m = tt
+HasWords-job_of forms.Join ws m = tt
+HasWords-job_of forms.Emit ws m = tt

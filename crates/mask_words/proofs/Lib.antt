@@ -1,4 +1,5 @@
 pub mod Apart
+pub mod Circuits
 pub mod Hexadecimal
 pub mod JobWords
 pub mod Matching

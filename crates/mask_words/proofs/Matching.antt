@@ -1,33 +1,61 @@
 -- Words against the tests of a form, and how far they reach.
-use Rattle.std.proofs.Common.{◌≡◌, ℕ, zero, suc, ◌<◌, ◌≤◌, Bool, true, false, cond, Option, None, Some, List, [], ◌∷◌, ◌++◌, length, get_or, take, drop, refl, ap, arith, codes}
+use Rattle.std.proofs.Common.{◌≡◌, ℕ, zero, suc, ◌<◌, ◌≤◌, Bool, true, false, cond, Option, None, Some, List, [], ◌∷◌, ◌++◌, length, get_or, take, drop, refl, ap, arith, eq-eqb, codes}
 use Rattle.std.proofs.lemmas.Fmt.{decimal_digit}
 use Rattle.std.proofs.lemmas.List.{drop_all}
 use Rattle.mask_words.specs.declared.word_tests.Command.TheVariants as commands
 use Rattle.mask_words.specs.declared.word_tests.Test.{Test}
-use Rattle.mask_words.specs.declared.word_tests.Test.TheVariants.{Given, Tape, Named, Order, Hex, Wire}
-use Rattle.mask_words.specs.WordTests.{Word, command_text, passes}
+use Rattle.mask_words.specs.declared.word_tests.Test.TheVariants.{Given, Tape, Named, Present, Order, Digits, Hex, Wire, Circuit}
+use Rattle.mask_words.specs.WordTests.{Word, command_text, are_hex_digits, are_digits, passes}
 use Rattle.mask_words.specs.Jobs.{Match, reach}
+
+-- n digits 0
+zeros : ℕ → Word
+zeros zero = []
+zeros (suc n) = 48 ∷ zeros n
+
+length-zeros : (n : ℕ) → length (zeros n) ≡ n
+unfolding zeros
+length-zeros zero = refl
+length-zeros (suc n) = ap suc (length-zeros n)
+
+are_hex_digits-zeros : (n : ℕ) → are_hex_digits (zeros n) ≡ true
+unfolding zeros
+are_hex_digits-zeros zero = refl
+are_hex_digits-zeros (suc n) = are_hex_digits-zeros n
+
+are_digits-zeros : (n : ℕ) → are_digits n (zeros n) ≡ true
+are_digits-zeros n = rw (eq-eqb _ _ (length-zeros n)) (are_hex_digits-zeros n)
 
 -- a word that passes
 sample : Test → Word
 sample Given = codes "-"
 sample Tape = codes "-"
 sample (Named c) = command_text c
+sample Present = codes "present-80"
 sample Order = codes "1"
+sample (Digits n) = zeros n
 sample Hex = codes "-"
 sample Wire = codes "0"
+sample Circuit = codes "present-80"
 
 sample-passes : (t : Test) → passes t (sample t) ≡ true
 unfolding sample
 sample-passes Given = refl
 sample-passes Tape = refl
+sample-passes (Named commands.Enc) = refl
 sample-passes (Named commands.Eval) = refl
 sample-passes (Named commands.Check) = refl
 sample-passes (Named commands.Upgrade) = refl
 sample-passes (Named commands.Probe) = refl
+sample-passes (Named commands.Split) = refl
+sample-passes (Named commands.Join) = refl
+sample-passes (Named commands.Emit) = refl
+sample-passes Present = refl
 sample-passes Order = refl
+sample-passes (Digits n) = are_digits-zeros n
 sample-passes Hex = refl
 sample-passes Wire = rw (decimal_digit 0 (omega arith)) refl
+sample-passes Circuit = refl
 
 -- words that pass the tests
 samples : List Test → List Word

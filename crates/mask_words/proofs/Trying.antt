@@ -11,14 +11,18 @@ use Rattle.mask_words.proofs.Matching.{goes_on, reach-goes_on, reach-bound}
 
 -- the form in row k of the table
 abbrev pub form_at : ℕ → Form
-form_at k = get_or FORMS k forms.Eval
+form_at k = get_or FORMS k forms.EncPresent
 
 -- each form has a row
 pub row_of : (f : Form) → (k : ℕ) × (k < length FORMS) × (form_at k ≡ f)
-row_of forms.Eval = (0, lit< tt, refl)
-row_of forms.Check = (1, lit< tt, refl)
-row_of forms.Upgrade = (2, lit< tt, refl)
-row_of forms.Probe = (3, lit< tt, refl)
+row_of forms.EncPresent = (0, lit< tt, refl)
+row_of forms.Eval = (1, lit< tt, refl)
+row_of forms.Check = (2, lit< tt, refl)
+row_of forms.Upgrade = (3, lit< tt, refl)
+row_of forms.Probe = (4, lit< tt, refl)
+row_of forms.Split = (5, lit< tt, refl)
+row_of forms.Join = (6, lit< tt, refl)
+row_of forms.Emit = (7, lit< tt, refl)
 
 -- the words are those of the form
 abbrev pub IsForm : Form → List Word → Type 0
@@ -46,7 +50,7 @@ Tried-none ws = record {
   in_limit = omega arith;
   none = λ k h. absurd (omega arith);
   below = λ k h. absurd (omega arith);
-  could_go_on = λ q h. form_goes_on ws forms.Eval q (omega arith);
+  could_go_on = λ q h. form_goes_on ws forms.EncPresent q (omega arith);
 }
 
 -- one more form is tried, which isn't that of the words; now is the farther of the reaches

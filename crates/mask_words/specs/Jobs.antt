@@ -1,27 +1,42 @@
 -- The table of commands: which words are a job, which job they are, and where words are refused.
 use Rattle.std.specs.Prelude.{◌≡◌, ℕ, suc, ◌+◌, ◌-◌, ◌<◌, ◌≤◌, ◌⊎◌, true, cond, IsTrue, Option, None, Some, List, [], ◌∷◌, ◌++◌, length, take, slice_index, slice_index_or}
+use Rattle.std.specs.Option.{unwrap_or}
+use Rattle.std.specs.Str.Parse.{digits_value}
+use Rattle.mask_tasks.specs.declared.sizes.KeySize.{KeySize}
+use Rattle.mask_tasks.specs.declared.sizes.KeySize.TheVariants.{K80}
+use Rattle.mask_tasks.specs.declared.tasks.Task.TheVariants as tasks
+use Rattle.mask_tasks.specs.declared.names.Named.{Named as BuiltIn}
+use Rattle.mask_tasks.specs.declared.names.Named.TheVariants.{Present80}
 use Rattle.mask_words.specs.declared.word_tests.Test.{Test}
-use Rattle.mask_words.specs.declared.word_tests.Test.TheVariants.{Given, Tape, Named, Order, Hex, Wire}
+use Rattle.mask_words.specs.declared.word_tests.Test.TheVariants.{Given, Tape, Named, Present, Order, Digits, Hex, Wire, Circuit}
 use Rattle.mask_words.specs.declared.table.Form.{Form}
 use Rattle.mask_words.specs.declared.table.Form.TheVariants as forms
 use Rattle.mask_words.specs.declared.table.Job.{Job}
 use Rattle.mask_words.specs.declared.table.Job.TheVariants as jobs
 use Rattle.mask_words.specs.declared.word_tests.Command.TheVariants as commands
-use Rattle.mask_words.specs.WordTests.{Word, passes, is_hex_text, is_number}
+use Rattle.mask_words.specs.WordTests.{Word, passes, is_hex_text, is_number, present_size, circuit_named}
 
 -- what the words of a form are tested for, one by one
 abbrev pub tests_of : Form → List Test
+tests_of forms.EncPresent = Given ∷ Tape ∷ Named commands.Enc ∷ Present ∷ Order ∷ Digits 16 ∷ []
 tests_of forms.Eval = Given ∷ Tape ∷ Named commands.Eval ∷ Order ∷ Hex ∷ []
 tests_of forms.Check = Given ∷ Tape ∷ Named commands.Check ∷ []
 tests_of forms.Upgrade = Given ∷ Tape ∷ Named commands.Upgrade ∷ []
 tests_of forms.Probe = Given ∷ Tape ∷ Named commands.Probe ∷ Order ∷ []
+tests_of forms.Split = Given ∷ Tape ∷ Named commands.Split ∷ Order ∷ []
+tests_of forms.Join = Given ∷ Tape ∷ Named commands.Join ∷ Order ∷ []
+tests_of forms.Emit = Given ∷ Tape ∷ Named commands.Emit ∷ Circuit ∷ []
 
 -- what further words are tested for, where a form may have them
 abbrev pub tail_of : Form → Option Test
+tail_of forms.EncPresent = None
 tail_of forms.Eval = None
 tail_of forms.Check = None
 tail_of forms.Upgrade = None
 tail_of forms.Probe = Some Wire
+tail_of forms.Split = None
+tail_of forms.Join = None
+tail_of forms.Emit = None
 
 -- as many words as tests, or more where further words have a test, and each word passes its test
 abbrev pub Match : List Test → Option Test → List Word → Type 0
@@ -44,16 +59,32 @@ reach (t ∷ ts) tail (w ∷ ws) = cond (passes t w) (suc (reach ts tail ws)) 0
 abbrev pub order_of : Word → ℕ
 order_of w = slice_index w 0 - 48
 
+-- the key size that a CIPHER word names; a word that names none doesn't come here
+abbrev pub size_of : Word → KeySize
+size_of w = unwrap_or (present_size w) K80
+
+-- the number that the digits of an IV spell in hexadecimal, highest digit first
+abbrev pub iv_of : Word → ℕ
+iv_of w = digits_value 16 w
+
+-- the circuit that a CIRCUIT word names; a word that names none doesn't come here
+abbrev pub circuit_of : Word → BuiltIn
+circuit_of w = unwrap_or (circuit_named w) Present80
+
 -- the word at a place counted from 1, as the table counts them
 abbrev pub word_at : List Word → ℕ → Word
 word_at ws place = slice_index_or ws (place - 1) []
 
 -- the job of words of that form
 abbrev pub job_of : Form → List Word → Job
+job_of forms.EncPresent ws = jobs.Enc (tasks.Present (size_of (word_at ws 4)) (iv_of (word_at ws 6))) (order_of (word_at ws 5))
 job_of forms.Eval ws = jobs.Eval (order_of (word_at ws 4))
 job_of forms.Check ws = jobs.Check
 job_of forms.Upgrade ws = jobs.Upgrade
 job_of forms.Probe ws = jobs.Probe (order_of (word_at ws 4))
+job_of forms.Split ws = jobs.Split (order_of (word_at ws 4))
+job_of forms.Join ws = jobs.Join (order_of (word_at ws 4))
+job_of forms.Emit ws = jobs.Emit (circuit_of (word_at ws 4))
 
 -- the words are this job
 abbrev pub IsJob : List Word → Job → Type 0
@@ -72,10 +103,14 @@ pub record IsRefused (ws : List Word) (p : ℕ) : Type 0 where
 
 -- the order of a job is from 1 to 7
 abbrev pub HasOrder : Job → Type 0
+HasOrder (jobs.Enc task order) = (1 ≤ order) × (order ≤ 7)
 HasOrder (jobs.Eval order) = (1 ≤ order) × (order ≤ 7)
 HasOrder jobs.Check = Unit {0}
 HasOrder jobs.Upgrade = Unit {0}
 HasOrder (jobs.Probe order) = (1 ≤ order) × (order ≤ 7)
+HasOrder (jobs.Split order) = (1 ≤ order) × (order ≤ 7)
+HasOrder (jobs.Join order) = (1 ≤ order) × (order ≤ 7)
+HasOrder (jobs.Emit circuit) = Unit {0}
 
 -- the words of `eval`: five, of which the fourth is the order and the fifth is in hexadecimal
 pub record EvalWords (ws : List Word) (order : ℕ) : Type 0 where
@@ -90,12 +125,16 @@ pub record ProbeWords (ws : List Word) (order : ℕ) : Type 0 where
   pub order_word : order ≡ order_of (word_at ws 4)
   pub wire_words : (k : ℕ) → 4 ≤ k → k < length ws → IsTrue (is_number (slice_index_or ws k []))
 
--- the words are those of this job
+-- the words are those of this job, where a command reads them again
 abbrev pub HasWords : List Word → Job → Type 0
+HasWords ws (jobs.Enc task order) = Unit {0}
 HasWords ws (jobs.Eval order) = EvalWords ws order
 HasWords ws jobs.Check = Unit {0}
 HasWords ws jobs.Upgrade = Unit {0}
 HasWords ws (jobs.Probe order) = ProbeWords ws order
+HasWords ws (jobs.Split order) = Unit {0}
+HasWords ws (jobs.Join order) = Unit {0}
+HasWords ws (jobs.Emit circuit) = Unit {0}
 
 -- Words are one job at most, and are refused at one place at most.
 abbrev pub HaveOneJob : Type 0

@@ -1,34 +1,51 @@
 -- What a word of a command line may be. A word is the list of its bytes.
-use Rattle.std.specs.Prelude.{◌≡◌, ℕ, ◌%◌, ◌^◌, ◌<◌, Bool, not, ◌&&◌, ◌||◌, ◌==◌, nat_eq, nat_lt, nat_le, IsTrue, if◌then◌else◌, List, length, drop, codes, decimal, slice_index}
+use Rattle.std.specs.Prelude.{◌≡◌, ℕ, ◌%◌, ◌^◌, ◌<◌, Bool, not, ◌&&◌, ◌||◌, ◌==◌, nat_eq, nat_lt, nat_le, IsTrue, if◌then◌else◌, Option, None, Some, is_some, List, [], ◌∷◌, length, drop, codes, decimal, slice_index}
 use Rattle.std.specs.List.{list_all, starts_with}
 use Rattle.std.specs.Str.{bytes_eq}
 use Rattle.std.specs.Str.Parse.{digits_value}
 use Rattle.std.specs.Char.{is_ascii_hexdigit}
+use Rattle.mask_tasks.specs.declared.sizes.KeySize.{KeySize}
+use Rattle.mask_tasks.specs.declared.sizes.KeySize.TheVariants.{K80, K128}
+use Rattle.mask_tasks.specs.declared.names.Named.{Named as BuiltIn}
+use Rattle.mask_tasks.specs.declared.names.TheConstants.{ALL}
+use Rattle.mask_tasks.specs.Names.{name_text}
 use Rattle.mask_words.specs.declared.word_tests.Command.{Command}
-use Rattle.mask_words.specs.declared.word_tests.Command.TheVariants.{Eval, Check, Upgrade, Probe}
+use Rattle.mask_words.specs.declared.word_tests.Command.TheVariants.{Enc, Eval, Check, Upgrade, Probe, Split, Join, Emit}
 use Rattle.mask_words.specs.declared.word_tests.Test.{Test}
-use Rattle.mask_words.specs.declared.word_tests.Test.TheVariants.{Given, Tape, Named, Order, Hex, Wire}
+use Rattle.mask_words.specs.declared.word_tests.Test.TheVariants.{Given, Tape, Named, Present, Order, Digits, Hex, Wire, Circuit}
 
 abbrev pub Word : Type 0
 Word = List ℕ
 
 abbrev pub command_text : Command → Word
+command_text Enc = codes "enc"
 command_text Eval = codes "eval"
 command_text Check = codes "check"
 command_text Upgrade = codes "upgrade"
 command_text Probe = codes "probe"
+command_text Split = codes "split"
+command_text Join = codes "join"
+command_text Emit = codes "emit"
 
 -- digits of either case
 abbrev pub are_hex_digits : Word → Bool
 are_hex_digits w = list_all is_ascii_hexdigit w
 
+-- n digits
+abbrev pub are_digits : ℕ → Word → Bool
+are_digits n w = length w == n && are_hex_digits w
+
 -- 64 hexadecimal digits
 abbrev pub are_seed_digits : Word → Bool
-are_seed_digits w = length w == 64 && are_hex_digits w
+are_seed_digits w = are_digits 64 w
 
 -- not empty; what begins with `seed:` goes on with 64 hexadecimal digits
 abbrev pub is_tape : Word → Bool
 is_tape w = if starts_with nat_eq w (codes "seed:") then are_seed_digits (drop 5 w) else not (length w == 0)
+
+-- the key size of PRESENT that a CIPHER word names
+abbrev pub present_size : Word → Option KeySize
+present_size w = if bytes_eq w (codes "present-80") then Some K80 else if bytes_eq w (codes "present-128") then Some K128 else None
 
 -- one digit from `1` to `7`
 abbrev pub is_order : Word → Bool
@@ -46,13 +63,25 @@ number_of w = digits_value 10 w
 abbrev pub is_number : Word → Bool
 is_number w = nat_lt (number_of w) (2 ^ 32) && bytes_eq w (decimal (number_of w))
 
+-- the first of these circuits that has this name
+abbrev pub first_named : List BuiltIn → Word → Option BuiltIn
+first_named [] w = None
+first_named (c ∷ cs) w = if bytes_eq w (name_text c) then Some c else first_named cs w
+
+-- the circuit that a CIRCUIT word names
+abbrev pub circuit_named : Word → Option BuiltIn
+circuit_named w = first_named ALL w
+
 abbrev pub passes : Test → Word → Bool
 passes Given w = not (length w == 0)
 passes Tape w = is_tape w
 passes (Named c) w = bytes_eq w (command_text c)
+passes Present w = is_some (present_size w)
 passes Order w = is_order w
+passes (Digits n) w = are_digits n w
 passes Hex w = is_hex_text w
 passes Wire w = is_number w
+passes Circuit w = is_some (circuit_named w)
 
 -- Each number below 2^32 has a word, each word that passes spells such a number, and none spells two.
 pub record WiresHaveOneNumber : Type 0 where

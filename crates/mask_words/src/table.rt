@@ -1,16 +1,19 @@
 //! The table of commands, and the job that words name by it.
 
 ghost use Rattle.std.specs.Prelude.{◌≡◌, ℕ, ◌+◌, ◌-◌, ◌*◌, ◌<◌, ◌≤◌, List, length, IfOk, IfErr, drop, take};
-ghost use Rattle.std.specs.Prelude.{IsTrue, ◌↔◌};
-ghost use Rattle.mask_words.specs.WordTests.{is_order};
-ghost use Rattle.mask_words.specs.Jobs.{tests_of, tail_of, reach, Match, order_of, job_of, IsJob, IsRefused, HasOrder, HasWords, HaveOneJob, HaveOnePlace};
+ghost use Rattle.std.specs.Prelude.{IsTrue, ◌↔◌, is_some};
+ghost use Rattle.mask_words.specs.WordTests.{is_order, are_digits, present_size, circuit_named};
+ghost use Rattle.mask_words.specs.Jobs.{tests_of, tail_of, reach, Match, order_of, size_of, iv_of, circuit_of, job_of, IsJob, IsRefused, HasOrder, HasWords, HaveOneJob, HaveOnePlace};
 
 use crate::command_lines::Words;
-use crate::word_tests::{Command, Test};
+use crate::word_tests::{Command, Test, present_size};
+use mask_tasks::{KeySize, Named, Task, circuit_named};
 
 /// A form that a command line may have: a row of the table of commands.
 #[derive(Clone, Copy, Debug, PartialEq, Eq)]
 pub enum Form {
+    /// `KEYS TAPE enc CIPHER ORDER IV`, where CIPHER is PRESENT with a key size
+    EncPresent,
     /// `KEYS TAPE eval ORDER HEX`
     Eval,
     /// `KEYS TAPE check`
@@ -19,14 +22,31 @@ pub enum Form {
     Upgrade,
     /// `KEYS TAPE probe ORDER WIRE ..`, with no, one or more WIRE words
     Probe,
+    /// `KEYS TAPE split ORDER`
+    Split,
+    /// `KEYS TAPE join ORDER`
+    Join,
+    /// `KEYS TAPE emit CIRCUIT`
+    Emit,
 }
 
 /// The rows of the table.
-pub const FORMS: [Form; 4] = [Form::Eval, Form::Check, Form::Upgrade, Form::Probe];
+pub const FORMS: [Form; 8] = [
+    Form::EncPresent,
+    Form::Eval,
+    Form::Check,
+    Form::Upgrade,
+    Form::Probe,
+    Form::Split,
+    Form::Join,
+    Form::Emit,
+];
 
 /// What the words of a command line ask for.
 #[derive(Clone, Copy, Debug, PartialEq, Eq)]
 pub enum Job {
+    /// Encrypt the input by this task at this order, 1 to 7.
+    Enc { task: Task, order: u32 },
     /// Evaluate a circuit at this order, 1 to 7.
     Eval { order: u32 },
     /// Say whether a circuit is accepted, and whether it is strong.
@@ -35,6 +55,12 @@ pub enum Job {
     Upgrade,
     /// Evaluate a circuit at this order, 1 to 7, with probes on wires: the words from the fifth on.
     Probe { order: u32 },
+    /// Share a key at this order, 1 to 7.
+    Split { order: u32 },
+    /// Put the key together again that was shared at this order, 1 to 7.
+    Join { order: u32 },
+    /// Write the text of a circuit that is built in.
+    Emit { circuit: Named },
 }
 
 /// The words are no job. No job's words begin with the first `place` words, or more words are wanted than there are.
@@ -50,6 +76,14 @@ impl Form {
         ensures { result.now ≡ tests_of self }
     {
         match self {
+            Form::EncPresent => &[
+                Test::Given,
+                Test::Tape,
+                Test::Named(Command::Enc),
+                Test::Present,
+                Test::Order,
+                Test::Digits(16),
+            ],
             Form::Eval => &[
                 Test::Given,
                 Test::Tape,
@@ -65,6 +99,24 @@ impl Form {
                 Test::Named(Command::Probe),
                 Test::Order,
             ],
+            Form::Split => &[
+                Test::Given,
+                Test::Tape,
+                Test::Named(Command::Split),
+                Test::Order,
+            ],
+            Form::Join => &[
+                Test::Given,
+                Test::Tape,
+                Test::Named(Command::Join),
+                Test::Order,
+            ],
+            Form::Emit => &[
+                Test::Given,
+                Test::Tape,
+                Test::Named(Command::Emit),
+                Test::Circuit,
+            ],
         }
     }
 
@@ -73,8 +125,14 @@ impl Form {
         ensures { result ≡ tail_of self }
     {
         match self {
-            Form::Eval | Form::Check | Form::Upgrade => None,
             Form::Probe => Some(Test::Wire),
+            Form::EncPresent
+            | Form::Eval
+            | Form::Check
+            | Form::Upgrade
+            | Form::Split
+            | Form::Join
+            | Form::Emit => None,
         }
     }
 }
@@ -134,6 +192,13 @@ fn job_of(form: Form, words: &Words) -> Job
     ensures { result ≡ job_of form words.now }
 {
     match form {
+        Form::EncPresent => Job::Enc {
+            task: Task::Present {
+                size: size_of(words.word(3)),
+                iv: iv_of(words.word(5)),
+            },
+            order: order_of(words.word(4)),
+        },
         Form::Eval => Job::Eval {
             order: order_of(words.word(3)),
         },
@@ -141,6 +206,15 @@ fn job_of(form: Form, words: &Words) -> Job
         Form::Upgrade => Job::Upgrade,
         Form::Probe => Job::Probe {
             order: order_of(words.word(3)),
+        },
+        Form::Split => Job::Split {
+            order: order_of(words.word(3)),
+        },
+        Form::Join => Job::Join {
+            order: order_of(words.word(3)),
+        },
+        Form::Emit => Job::Emit {
+            circuit: circuit_of(words.word(3)),
         },
     }
 }
@@ -150,6 +224,27 @@ fn order_of(word: &str) -> u32
     ensures { result ≡ order_of word.now }
 {
     u32::from(word.as_bytes()[0] - b'0')
+}
+
+fn size_of(word: &str) -> KeySize
+    requires { IsTrue (is_some (present_size word.now)) }
+    ensures { result ≡ size_of word.now }
+{
+    present_size(word).unwrap()
+}
+
+fn iv_of(word: &str) -> u64
+    requires { IsTrue (are_digits 16 word.now) }
+    ensures { result ≡ iv_of word.now }
+{
+    u64::from_str_radix(word, 16).unwrap()
+}
+
+fn circuit_of(word: &str) -> Named
+    requires { IsTrue (is_some (circuit_named word.now)) }
+    ensures { result ≡ circuit_of word.now }
+{
+    circuit_named(word).unwrap()
 }
 
 /// Words are one job at most, and are refused at one place at most. Those of a job aren't refused.

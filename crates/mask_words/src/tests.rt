@@ -1,4 +1,5 @@
 use super::{BadWords, Job, TapeName, Words, hex_bytes, keys_path, read_words, tape_name, wire_of};
+use mask_tasks::{KeySize, Named, Task};
 use std::alloc::{AllocError, Global};
 use std::test::Fail;
 
@@ -10,6 +11,105 @@ fn words_of(alloc: Global, list: &[&str]) -> Result<Words, AllocError> {
         }
     }
     Ok(words)
+}
+
+// Encryption by PRESENT.
+fn enc(size: KeySize, iv: u64, order: u32) -> Job {
+    Job::Enc {
+        task: Task::Present { size, iv },
+        order,
+    }
+}
+
+#[test]
+fn reads_the_words_of_enc(rt: HostRuntime) -> Result<(), Fail> {
+    let cases: [(&[&str], Job); 3] = [
+        (
+            &["k", "t", "enc", "present-80", "1", "0000000000000000"],
+            enc(KeySize::K80, 0, 1),
+        ),
+        (
+            &["k", "t", "enc", "present-80", "7", "fFfFffffFFFFffff"],
+            enc(KeySize::K80, 18_446_744_073_709_551_615, 7),
+        ),
+        (
+            &["k", "t", "enc", "present-128", "2", "0123456789abCDEF"],
+            enc(KeySize::K128, 0x0123_4567_89ab_cdef, 2),
+        ),
+    ];
+    for (list, job) in cases {
+        let words = words_of(rt.alloc(), list)?;
+        assert_eq!(rt; read_words(&words), Ok(job));
+    }
+    Ok(())
+}
+
+#[test]
+fn reads_the_words_of_keys_and_circuits(rt: HostRuntime) -> Result<(), Fail> {
+    let cases: [(&[&str], Job); 4] = [
+        (&["k", "t", "split", "7"], Job::Split { order: 7 }),
+        (&["k", "t", "join", "1"], Job::Join { order: 1 }),
+        (
+            &["k", "t", "emit", "present-80"],
+            Job::Emit {
+                circuit: Named::Present80,
+            },
+        ),
+        (
+            &["k", "t", "emit", "refresh-128"],
+            Job::Emit {
+                circuit: Named::Refresh128,
+            },
+        ),
+    ];
+    for (list, job) in cases {
+        let words = words_of(rt.alloc(), list)?;
+        assert_eq!(rt; read_words(&words), Ok(job));
+    }
+    Ok(())
+}
+
+#[test]
+fn refuses_the_words_of_enc(rt: HostRuntime) -> Result<(), Fail> {
+    let cases: [(&[&str], u32); 9] = [
+        (&["k", "t", "enc"], 4),
+        (&["k", "t", "enc", "des"], 4),
+        (&["k", "t", "enc", "present-64", "1", "0000000000000000"], 4),
+        (&["k", "t", "enc", "present-80", "8", "0000000000000000"], 5),
+        (&["k", "t", "enc", "present-80", "1"], 6),
+        (
+            &["k", "t", "enc", "present-80", "1", "00000000000000000"],
+            6,
+        ),
+        (&["k", "t", "enc", "present-80", "1", "000000000000000"], 6),
+        (&["k", "t", "enc", "present-80", "1", "+000000000000000"], 6),
+        (
+            &["k", "t", "enc", "present-80", "1", "0000000000000000", "x"],
+            7,
+        ),
+    ];
+    for (list, place) in cases {
+        let words = words_of(rt.alloc(), list)?;
+        assert_eq!(rt; read_words(&words), Err(BadWords { place }));
+    }
+    Ok(())
+}
+
+#[test]
+fn refuses_the_words_of_keys_and_circuits(rt: HostRuntime) -> Result<(), Fail> {
+    let cases: [(&[&str], u32); 6] = [
+        (&["k", "t", "split", "8"], 4),
+        (&["k", "t", "split", "1", "x"], 5),
+        (&["k", "t", "join"], 4),
+        (&["k", "t", "join", "0"], 4),
+        (&["k", "t", "emit", "present-64"], 4),
+        (&["k", "t", "emit", "present-80", "1"], 5),
+    ];
+    for (list, place) in cases {
+        let words = words_of(rt.alloc(), list)?;
+        assert_eq!(rt; read_words(&words), Err(BadWords { place }));
+    }
+    Ok(())
 }
 
 #[test]

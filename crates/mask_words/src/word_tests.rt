@@ -2,13 +2,16 @@
 
 ghost use Rattle.std.specs.Prelude.{◌≡◌, ℕ, ◌<◌, List, length};
 ghost use Rattle.std.specs.Prelude.{codes, IsTrue};
-ghost use Rattle.mask_words.specs.WordTests.{passes, command_text, are_hex_digits, are_seed_digits, is_hex_text, is_tape, is_order, is_number, number_of, WiresHaveOneNumber};
+ghost use Rattle.mask_words.specs.WordTests.{passes, command_text, are_hex_digits, are_digits, are_seed_digits, present_size, is_hex_text, is_tape, is_order, is_number, number_of, WiresHaveOneNumber};
 
 use itoa::Buffer;
+use mask_tasks::{KeySize, circuit_named};
 
 /// The name of a command. Several rows of the table may have the same.
 #[derive(Clone, Copy, Debug, PartialEq, Eq)]
 pub enum Command {
+    /// `enc`
+    Enc,
     /// `eval`
     Eval,
     /// `check`
@@ -17,6 +20,12 @@ pub enum Command {
     Upgrade,
     /// `probe`
     Probe,
+    /// `split`
+    Split,
+    /// `join`
+    Join,
+    /// `emit`
+    Emit,
 }
 
 impl Command {
@@ -24,10 +33,14 @@ impl Command {
         ensures { result.now ≡ command_text self }
     {
         match self {
+            Command::Enc => "enc",
             Command::Eval => "eval",
             Command::Check => "check",
             Command::Upgrade => "upgrade",
             Command::Probe => "probe",
+            Command::Split => "split",
+            Command::Join => "join",
+            Command::Emit => "emit",
         }
     }
 }
@@ -41,12 +54,18 @@ pub enum Test {
     Tape,
     /// The name of this command.
     Named(Command),
+    /// PRESENT with a key size: `present-80` or `present-128`.
+    Present,
     /// An order: one digit, from 1 to 7.
     Order,
+    /// So many hexadecimal digits, in either case.
+    Digits(usize),
     /// Bytes in hexadecimal: `-` for none, or an even number of digits, at least two, in either case.
     Hex,
     /// The number of a wire: in decimal, without a needless zero, and less than 2^32.
     Wire,
+    /// The name of a circuit that is built in.
+    Circuit,
 }
 
 impl Test {
@@ -58,9 +77,12 @@ impl Test {
             Test::Given => !word.is_empty(),
             Test::Tape => is_tape(word),
             Test::Named(command) => word == command.text(),
+            Test::Present => present_size(word).is_some(),
             Test::Order => is_order(word.as_bytes()),
+            Test::Digits(count) => are_digits(count, word.as_bytes()),
             Test::Hex => is_hex_text(word),
             Test::Wire => is_number(word),
+            Test::Circuit => circuit_named(word).is_some(),
         }
     }
 }
@@ -71,10 +93,27 @@ fn are_hex_digits(digits: &[u8]) -> bool
     digits.iter().all(|digit| digit.is_ascii_hexdigit())
 }
 
+fn are_digits(count: usize, digits: &[u8]) -> bool
+    ensures { result ≡ are_digits count digits.now }
+{
+    digits.len() == count && are_hex_digits(digits)
+}
+
 pub(crate) fn are_seed_digits(digits: &[u8]) -> bool
     ensures { result ≡ are_seed_digits digits.now }
 {
-    digits.len() == 64 && are_hex_digits(digits)
+    are_digits(64, digits)
+}
+
+/// The key size of PRESENT that a CIPHER word names.
+pub(crate) fn present_size(word: &str) -> Option<KeySize>
+    ensures { result ≡ present_size word.now }
+{
+    match word {
+        "present-80" => Some(KeySize::K80),
+        "present-128" => Some(KeySize::K128),
+        _ => None,
+    }
 }
 
 fn is_tape(word: &str) -> bool

@@ -13,7 +13,7 @@ use Rattle.mask_tape.specs.Drawn.{Drawn, left as left_of}
 use Rattle.mask_gadget.specs.Wiring.{told_more}
 use Rattle.mask_gadget.proofs.Sizes.{row_fits}
 use Rattle.mask_gadget.proofs.Telling.{told_more-none}
-use Rattle.mask_eval.specs.Frames.{SameShares}
+use Rattle.mask_laws.specs.Sharing.{SameShares}
 use Rattle.mask_eval.specs.Telling.{wires_from}
 use Rattle.mask_eval.proofs.Runs.{written_behind, run-take, next_value}
 use Rattle.mask_eval.proofs.Told.{out-earlier, wires-earlier, wires_from-take, next_told}

@@ -5,7 +5,7 @@ use Rattle.mask_circuit.specs.Netlist.{AreGates}
 use Rattle.mask_circuit.specs.Expansion.{start, run, shares_of}
 use Rattle.mask_shares.specs.Sharing.{all_listed}
 use Rattle.mask_gadget.specs.Wiring.{told_more}
-use Rattle.mask_eval.specs.Frames.{SameShares}
+use Rattle.mask_laws.specs.Sharing.{SameShares}
 use Rattle.mask_eval.specs.Telling.{wires_from}
 use Rattle.mask_eval.proofs.gates.eval_gates.Given as goal
 

@@ -1,4 +1,4 @@
-use Rattle.std.proofs.Common.{◌≡◌, ◌++◌, length, take, drop}
+use Rattle.std.proofs.Common.{◌≡◌, ◌++◌, take, drop}
 use Rattle.mask_eval.specs.Listing.{filled}
 use Rattle.mask_eval.proofs.listing.fill_blanks.Given as goal
 

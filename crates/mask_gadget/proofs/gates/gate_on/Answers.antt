@@ -6,10 +6,9 @@ use Rattle.mask_circuit.specs.declared.gates.Wire.TheVariants.{Share}
 use Rattle.mask_circuit.specs.Wires.{on_first, gate_wire, gate_out}
 use Rattle.mask_circuit.proofs.Places.{length-each}
 use Rattle.mask_shares.specs.Sharing.{all_listed}
-use Rattle.mask_shares.proofs.Lists.{each-same}
+use Rattle.mask_shares.proofs.Lists.{each-same, map-each}
 use Rattle.mask_tape.specs.Drawn.{ahead}
 use Rattle.mask_gadget.specs.Wiring.{told_more}
-use Rattle.mask_gadget.proofs.Made.{map-each}
 use Rattle.mask_gadget.proofs.Sizes.{row_fits}
 use Rattle.mask_gadget.proofs.gates.gate_on.Given as given
 use Rattle.mask_gadget.proofs.gates.gate_on.Goals as goal

@@ -4,8 +4,8 @@ use Rattle.mask_circuit.specs.Ring.{words}
 use Rattle.mask_circuit.specs.declared.gates.Wire.TheVariants.{Share}
 use Rattle.mask_circuit.specs.Wires.{gate_wire}
 use Rattle.mask_shares.specs.Sharing.{all_listed}
+use Rattle.mask_shares.proofs.Lists.{map-each}
 use Rattle.mask_gadget.specs.Wiring.{told_more}
-use Rattle.mask_gadget.proofs.Made.{map-each}
 use Rattle.mask_gadget.proofs.Telling.{none_made, one_made, all_made, word_read}
 use Rattle.mask_gadget.proofs.linear.xor.Goals as goal
 

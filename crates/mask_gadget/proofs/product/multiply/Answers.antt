@@ -4,7 +4,7 @@ use Rattle.mask_circuit.specs.Wires.{each}
 use Rattle.mask_circuit.proofs.Places.{below_cases}
 use Rattle.mask_shares.proofs.Lists.{get_or-each}
 use Rattle.mask_gadget.specs.Wiring.{told_more}
-use Rattle.mask_gadget.proofs.Cells.{same_rows, row_written, row_kept, row_square}
+use Rattle.mask_gadget.proofs.Cells.{row_written, row_kept, row_square}
 use Rattle.mask_gadget.proofs.Sizes.{row_fits}
 use Rattle.mask_gadget.proofs.Telling.{told_more-none, told_piece, made_count, word_read}
 use Rattle.mask_gadget.proofs.product.multiply.Goals as goal

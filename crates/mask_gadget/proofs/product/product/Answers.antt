@@ -6,7 +6,7 @@ use Rattle.mask_circuit.specs.Wires.{product_wire}
 use Rattle.mask_gadget.specs.Wiring.{cell}
 use Rattle.mask_gadget.specs.Gadgets.{pair_coin}
 use Rattle.mask_gadget.proofs.Cells.{same_rows}
-use Rattle.mask_gadget.proofs.Made.{map-each}
+use Rattle.mask_shares.proofs.Lists.{map-each}
 use Rattle.mask_gadget.proofs.Mixing.{none_mixed}
 use Rattle.mask_gadget.proofs.Products.{product_count, all_told}
 use Rattle.mask_gadget.proofs.Sizes.{row_fits, square_fits}

@@ -2,7 +2,8 @@ use Rattle.std.proofs.Common.{◌≡◌, ℕ, ◌<◌, length, map, get_or, bit_
 use Rattle.mask_circuit.specs.Ring.{words}
 use Rattle.mask_circuit.specs.Wires.{other, row_sum}
 use Rattle.mask_gadget.proofs.Products.{partner_more}
-use Rattle.mask_gadget.proofs.Rows.{partial-end, other-below}
+use Rattle.mask_laws.proofs.Names.{other-below}
+use Rattle.mask_gadget.proofs.Rows.{partial-end}
 use Rattle.mask_gadget.proofs.Telling.{told_more-none, told_each, word_read}
 use Rattle.mask_gadget.proofs.product.sum_row.Goals as goal
 
@@ -18,7 +19,7 @@ loop-m-preserved g c =
     let W = g.W.Wiring in
     let first : ℕ = get_or (map g.W.Wiring.carried c.args.row.now) c.args.i 0 in
     let term : ℕ → ℕ = λ k. get_or (map g.W.Wiring.carried c.args.row.now) k 0 in
-    let below = other-below g.row.N c.args.i c.loop-m.m c.requires.row c.loop-m-test.true in
+    let below = other-below g.row.N c.args.i c.loop-m.m c.requires.row (omega arith) in
     let within : c.other.result < length c.args.row.now = omega arith in
     let sum : W.carried c.xor-sum.result ≡ row_sum words first term c.args.i (other c.args.i c.loop-m.m) =
     partner_more first term c.args.i c.loop-m.m (W.carried c.loop-m.sum) (W.carried c.xor-sum.result) c.loop-m.invariant.sum

@@ -5,10 +5,9 @@ use Rattle.mask_circuit.specs.declared.gates.Wire.{Wire}
 use Rattle.mask_circuit.specs.declared.gates.Wire.TheVariants.{Share}
 use Rattle.mask_circuit.specs.Wires.{refresh_wire}
 use Rattle.mask_shares.specs.Sharing.{listed}
-use Rattle.mask_shares.proofs.Lists.{is_each}
+use Rattle.mask_shares.proofs.Lists.{is_each, map-each}
 use Rattle.mask_gadget.specs.Wiring.{told_more}
 use Rattle.mask_gadget.specs.Gadgets.{pair_coin, update_row}
-use Rattle.mask_gadget.proofs.Made.{map-each}
 use Rattle.mask_circuit.proofs.PairNumbers.{length-pairs, pairs_before-all, pairs_before-more}
 use Rattle.mask_gadget.proofs.Pairs.{row_within, next_row}
 use Rattle.mask_gadget.proofs.Refreshes.{none_done, all_done, all_updates, refresh_count}

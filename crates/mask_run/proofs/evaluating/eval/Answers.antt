@@ -1,4 +1,5 @@
 use Rattle.std.proofs.Common.{[], ◌∷◌, refl, inl, inr}
+use Rattle.std.proofs.KnownBytes.{Consumes-nil}
 use Rattle.mask_circuit.specs.Netlist.{Netlist}
 use Rattle.mask_words.specs.Jobs.{word_at}
 use Rattle.mask_inspect.specs.Checks.{Grammar, Inputs, Acceptance}
@@ -9,10 +10,12 @@ use Rattle.mask_run.proofs.Printing.{ready, passes, Evaluated-printed, asks_for,
 use Rattle.mask_run.proofs.evaluating.eval.Goals as goal
 
 pub returns-in-Err-clause-ends : goal.returns-in-Err-clause-ends
-returns-in-Err-clause-ends g c =
+returns-in-Err-clause-ends g c keys =
     let taken = c.in-Err.ensures.err in
     let stopped = rw c.word.ensures at taken.2.0 in
     record {
+      keys = [];
+      keys_taken = Consumes-nil keys;
       bytes = taken.0;
       taken = taken.1;
       ends = Ends-stopped (Grammar ∷ Inputs (word_at c.args.words.now 5) ∷ Acceptance ∷ []) [] _ taken.0 _ _ stopped;
@@ -21,12 +24,14 @@ returns-in-Err-clause-ends g c =
     }
 
 pub returns-in-Ok-evaluated-clause-ends : goal.returns-in-Ok-evaluated-clause-ends
-returns-in-Ok-evaluated-clause-ends g c =
+returns-in-Ok-evaluated-clause-ends g c keys =
     let taken = c.in-Ok.ensures.ok in
     let prepared = rw c.word.ensures at taken.2.0 in
     let read = prepared.read in
     let written = rw c.deref.ensures.value at c.send.ensures.writes in
     record {
+      keys = [];
+      keys_taken = Consumes-nil keys;
       bytes = taken.0;
       taken = taken.1;
       ends =
@@ -37,12 +42,14 @@ returns-in-Ok-evaluated-clause-ends g c =
     }
 
 pub returns-in-Err-Failed-clause-ends : goal.returns-in-Err-Failed-clause-ends
-returns-in-Err-Failed-clause-ends g c =
+returns-in-Err-Failed-clause-ends g c keys =
     let taken = c.in-Ok.ensures.ok in
     let prepared = rw c.word.ensures at taken.2.0 in
     let read = prepared.read in
     let failed = c.in-Err-Failed.ensures.failed c.in-Err-Failed.field-0-is in
     record {
+      keys = [];
+      keys_taken = Consumes-nil keys;
       bytes = taken.0;
       taken = taken.1;
       ends =
@@ -59,11 +66,13 @@ returns-in-Err-Failed-clause-ends g c =
     }
 
 pub returns-clause-ends : goal.returns-clause-ends
-returns-clause-ends g c =
+returns-clause-ends g c keys =
     let taken = c.in-Ok.ensures.ok in
     let prepared = taken.2.0 in
     let read = prepared.read in
     record {
+      keys = [];
+      keys_taken = Consumes-nil keys;
       bytes = taken.0;
       taken = taken.1;
       ends = Breaks (inr refl);

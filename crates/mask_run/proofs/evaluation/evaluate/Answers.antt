@@ -1,11 +1,10 @@
-use Rattle.std.proofs.Common.{◌≡◌, ℕ, suc, ◌+◌, ◌-◌, ◌*◌, Bool, cond, List, [], ◌∷◌, length, map, refl, sym, ap, ap₂, subst, ◌∙◌, lit<, lit≤, rules, arith}
+use Rattle.std.proofs.Common.{◌≡◌, ℕ, suc, ◌+◌, ◌-◌, Bool, cond, List, [], ◌∷◌, length, map, refl, sym, ap, ap₂, subst, ◌∙◌, lit<, lit≤, rules, arith}
 use Rattle.std.proofs.lemmas.List.{length-map}
 use Rattle.mask_circuit.specs.Netlist.{Netlist}
 use Rattle.mask_laws.proofs.Hiding.{accepted_call_is_private}
 use Rattle.mask_tape.specs.Drawn.{Amount}
 use Rattle.mask_eval.specs.Watching.{Awaited, awaited, IsReadyFor}
 use Rattle.mask_eval.specs.Evaluated.{coin_count}
-use Rattle.mask_run.specs.Calls.{eval_bits}
 use Rattle.mask_run.specs.Hexadecimal.{IsReport}
 use Rattle.mask_run.specs.Lanes.{words_of, first_bit}
 use Rattle.mask_run.proofs.LaneZero.{count_is, evaluates-same, needed, tells_call, outputs_stand}

@@ -1,7 +1,8 @@
 use Rattle.std.proofs.Common.{◌≡◌, ℕ, ◌+◌, ◌-◌, ◌*◌, ◌/◌, ◌%◌, ◌<◌, false, length, drop, take, get_or, arith, ◌∙◌, ap, length-drop}
 use Rattle.std.proofs.lemmas.List.{length-take}
 use Rattle.mask_bits.specs.Reading.{low}
-use Rattle.mask_tape.proofs.Windows.{bit-number, bit-shifted, bit-cut, in_part, power}
+use Rattle.mask_bits.proofs.Numbers.{bit-number}
+use Rattle.mask_tape.proofs.Windows.{bit-shifted, bit-cut, in_part, power}
 use Rattle.mask_tape.proofs.spreading.window.Goals as goal
 
 pub returns-clause-inside : goal.returns-clause-inside

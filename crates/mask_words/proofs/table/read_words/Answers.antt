@@ -9,12 +9,12 @@ loop-form-init c = Tried-none _
 
 pub loop-form-preserved : goal.loop-form-preserved
 loop-form-preserved c =
-    Tried-more _ _ c.loop-form.farthest c.reach-passed.result _ c.loop-form.invariant (cc) (omega arith) (λ m. absurd (cc (c.is_whole.ensures.1 m)))
+    Tried-more _ _ c.loop-form.farthest c.reach-passed.result _ c.loop-form.invariant (rw c.tests.ensures at (rw c.tail.ensures at c.reach-passed.ensures.count)) (omega arith) (λ m. absurd (cc (c.is_whole.ensures.1 m)))
     (elim c.if-passed-farthest.branch [ then-passed-farthest w ↦ inr (omega arith, omega arith) | else-passed-farthest w ↦ inl (omega arith, omega arith) ])
 
 pub returns-clause-refused : goal.returns-clause-refused
 returns-clause-refused c =
-    let all : c.loop-form.form-index ≡ 4 = omega arith in
+    let all : c.loop-form.form-index ≡ 8 = omega arith in
     IsRefused-tried _ _ (subst (λ (n : ℕ). Tried c.args.words.now n c.loop-form.farthest) all c.loop-form.invariant)
 
 pub returns-then-is_whole-clause-order : goal.returns-then-is_whole-clause-order

@@ -1,0 +1,6 @@
+pub mod Breaking
+pub mod Drawing
+pub mod Enciphering
+pub mod Joining
+mod TaskExamples
+pub mod Writing

@@ -1,0 +1,5 @@
+mod Batches
+mod Counted
+mod Evaluations
+mod Lanes
+mod Turned

@@ -1,0 +1,26 @@
+-- The named circuits are strong and compute what their names say.
+use Rattle.std.proofs.Common.{◌≡◌, ℕ, ◌+◌, ◌≤◌, length, refl, ap, arith}
+use Rattle.mask_circuit.specs.Netlist.{IsCircuit, value_count}
+use Rattle.mask_parts.specs.CipherCircuits.{Size, size_of, IsCipherCircuit}
+use Rattle.mask_tasks.specs.declared.names.Named.TheVariants.{Present80, Present128, Refresh80, Refresh128}
+use Rattle.mask_tasks.specs.declared.sizes.KeySize.TheVariants.{K80, K128}
+use Rattle.mask_present.proofs.Forming.{IsCipherCircuit-named_present}
+use Rattle.mask_refresh.specs.Refreshing.{refreshing, refreshing_size, same_bits}
+use Rattle.mask_refresh.proofs.Making.{IsWellFormed-refreshing, size-refreshing, IsCipherCircuit-refreshing}
+use Rattle.mask_emit.specs.Emitting.{NamedCircuits}
+
+IsCircuit-refreshing : (n : ℕ) → n ≤ 500_000 → IsCircuit (refreshing n)
+unfolding size_of
+IsCircuit-refreshing n few =
+    let values : value_count (refreshing n) ≡ n + n = ap (λ (s : Size). s.values) (size-refreshing n) in
+    let outputs : length (refreshing n).outputs ≡ n = ap (λ (s : Size). s.outputs) (size-refreshing n) in
+    record { formed = IsWellFormed-refreshing n; few_values = omega arith; few_outputs = omega arith }
+
+IsCipherCircuit-refresh : (n : ℕ) → n ≤ 500_000 → IsCipherCircuit (refreshing n) (refreshing_size n) same_bits (refreshing n)
+IsCipherCircuit-refresh n few = IsCipherCircuit-refreshing n (refreshing n) refl (IsCircuit-refreshing n few)
+
+pub named-circuits : NamedCircuits
+named-circuits Present80 = IsCipherCircuit-named_present K80
+named-circuits Present128 = IsCipherCircuit-named_present K128
+named-circuits Refresh80 = IsCipherCircuit-refresh 80 (omega arith)
+named-circuits Refresh128 = IsCipherCircuit-refresh 128 (omega arith)

@@ -1,0 +1,5 @@
+pub mod Growing
+pub mod Ending
+pub mod Telling
+pub mod Handing
+pub mod Reading

@@ -1,0 +1,106 @@
+-- What `enc` does with key lines and a message, of which it took these bytes; N is the number of lines, so d is N - 1.
+use Rattle.std.specs.Prelude.{◌≡◌, ℕ, pred, ◌+◌, ◌%◌, ◌<◌, ◌≤◌, Bool, List, [], ◌++◌, length, take, All}
+use Rattle.std.specs.declared.option.Option.{Option}
+use Rattle.std.specs.Io.KnownBytes.{Appends, Consumes, IsAtEnd}
+use Rattle.mask_bits.specs.Reading.{bytes_for}
+use Rattle.mask_io.specs.Outside.{AppendsProperPrefix}
+use Rattle.mask_tasks.specs.declared.tasks.Task.{Task}
+use Rattle.mask_tasks.specs.Tasks.{key_bytes, longest_message}
+use Rattle.mask_keys.specs.Lines.{joined}
+use Rattle.mask_eval.specs.Watching.{Told, told_more}
+use Rattle.mask_trace.specs.Drawing.{Stand, RanPart}
+use Rattle.mask_trace.specs.Values.{IsStrongEvaluation}
+use Rattle.mask_ciphers.specs.Tasks.{output, plan, with_lines}
+use Rattle.mask_ciphers.specs.Totals.{total}
+use Rattle.mask_ciphers.specs.Laws.{IsPrivateRun}
+use Rattle.mask_plan.specs.Sessions.{batch_length}
+use Rattle.mask_keys.specs.declared.files.KeyLength.TheVariants.{Exactly}
+use Rattle.mask_secrets.specs.KeyEnds.{KeyEnds}
+use Rattle.mask_status.specs.declared.status.Status.{Status}
+use Rattle.mask_status.specs.declared.status.Status.TheVariants.{Done, TooLong, ReadFault, TapeFault, WriteFault, NoMemory}
+use Rattle.mask_message.specs.Outside.{Outside}
+
+-- tape and watch before the run, which keeps no bit of an earlier one, and after it, whatever it keeps
+abbrev pub at_first : Outside → Stand
+at_first o = record { kept = []; left = o.tape_before; told = o.told_before }
+
+abbrev pub at_last : List Bool → Outside → Stand
+at_last kept o = record { kept = kept; left = o.tape_after; told = o.told_after }
+
+-- The first `count` steps of the run on these bytes were evaluated: the tape gave just their bits, rounded up to bytes, and the
+-- watch was told just these evaluations, each of a strong circuit. Any d of all their wires show nothing of key and message.
+pub record RanSteps (task : Task) (N : ℕ) (lines : List (List ℕ)) (bytes : List ℕ) (count : ℕ) (o : Outside) : Type 0 where
+  pub kept : List Bool
+  pub part : RanPart N (with_lines task lines) (plan task bytes) count (at_first o) (at_last kept o)
+  pub private : IsPrivateRun N task bytes count
+
+-- all of them
+abbrev pub RanAll : Task → ℕ → List (List ℕ) → List ℕ → Outside → Type 0
+RanAll task N lines bytes o = RanSteps task N lines bytes (length (plan task bytes)) o
+
+-- The bytes are the whole message. Its ciphertext was written, and the tape gave just the stated number of bits.
+pub record Encrypts (task : Task) (N : ℕ) (lines : List (List ℕ)) (bytes : List ℕ) (o : Outside) : Type 0 where
+  pub at_end : IsAtEnd o.left_after
+  pub within : length bytes ≤ longest_message task
+  pub written : Appends o.out_before o.out_after (output task (joined lines) bytes)
+  pub ran : RanAll task N lines bytes o
+  pub drawn : length ran.part.ran.fresh ≡ bytes_for (total task (pred N) (length bytes))
+
+-- Writing failed: all bytes were encrypted, and a part of their ciphertext was written, not all.
+pub record CutsOff (task : Task) (N : ℕ) (lines : List (List ℕ)) (bytes : List ℕ) (o : Outside) : Type 0 where
+  pub within : length bytes ≤ longest_message task
+  pub written : AppendsProperPrefix o.out_before o.out_after (output task (joined lines) bytes)
+  pub ran : RanAll task N lines bytes o
+
+-- whole batches were encrypted and written, and nothing else was drawn or told
+pub record WroteBatches (task : Task) (N : ℕ) (lines : List (List ℕ)) (front : List ℕ) (o : Outside) : Type 0 where
+  pub whole : length front % batch_length task ≡ 0
+  pub written : Appends o.out_before o.out_after (output task (joined lines) front)
+  pub ran : RanAll task N lines front o
+
+-- the run broke off behind whole batches; of what came behind them, which is as said, nothing was encrypted
+abbrev pub BreaksOff : Task → ℕ → List (List ℕ) → List ℕ → Outside → (ℕ → Type 0) → Type 0
+BreaksOff task N lines bytes o Rest = (front : List ℕ) × (more : List ℕ) × (bytes ≡ front ++ more) × Rest (length more)
+    × WroteBatches task N lines front o
+
+-- The tape failed for the bytes behind whole batches, some but no more than a batch. The batches were written, and all their steps
+-- were evaluated, and then perhaps a refresh of the key. What the tape gave and what it wants are no more than the whole run needs.
+pub record FailsToDraw (task : Task) (N : ℕ) (lines : List (List ℕ)) (bytes : List ℕ) (o : Outside) : Type 0 where
+  pub front : List ℕ
+  pub more : List ℕ
+  pub came : bytes ≡ front ++ more
+  pub whole : length front % batch_length task ≡ 0
+  pub some_came : 1 ≤ length more
+  pub few_came : length more ≤ batch_length task
+  pub written : Appends o.out_before o.out_after (output task (joined lines) front)
+  pub count : ℕ
+  pub ran : RanSteps task N lines bytes count o
+  pub holds : length (plan task front) ≤ count
+  pub wanted : 1 ≤ o.wanted
+  pub within : length ran.part.ran.fresh + o.wanted ≤ bytes_for (total task (pred N) (length bytes))
+
+-- what each status says
+abbrev pub Streams : Task → ℕ → List (List ℕ) → List ℕ → Outside → Status → Type 0
+Streams task N lines bytes o Done = Encrypts task N lines bytes o
+Streams task N lines bytes o WriteFault = CutsOff task N lines bytes o
+Streams task N lines bytes o (TooLong limit) = (limit ≡ longest_message task) × (limit < length bytes) × WroteBatches task N lines (take limit bytes) o
+Streams task N lines bytes o ReadFault = BreaksOff task N lines bytes o (λ n. n < batch_length task)
+Streams task N lines bytes o NoMemory = BreaksOff task N lines bytes o (λ n. n ≤ batch_length task)
+Streams task N lines bytes o TapeFault = FailsToDraw task N lines bytes o
+Streams task N lines bytes o status = ⊥
+
+-- These bytes of the message were taken, and they are as said.
+abbrev pub TakesMessage : Task → ℕ → List (List ℕ) → Outside → Status → Type 0
+TakesMessage task N lines o status = (bytes : List ℕ) × Consumes o.left_before o.left_after bytes × Streams task N lines bytes o status
+
+-- What `enc` does at order d, N - 1: these bytes were taken of the key file and these of the message, and it ends so.
+pub record Encs (task : Task) (N : ℕ) (o : Outside) (status : Status) : Type 0 where
+  pub keys : List ℕ
+  pub keys_taken : Consumes o.keys_before o.keys_after keys
+  pub bytes : List ℕ
+  pub taken : Consumes o.left_before o.left_after bytes
+  pub ends : KeyEnds N (Exactly (key_bytes task)) (λ lines s. Streams task N lines bytes o s) keys o.keys_after status
+
+-- What the watch was told more are evaluations of strong circuits on N shares, and nothing else.
+abbrev pub TellsStrongCalls : ℕ → Option (List Told) → Option (List Told) → Type 0
+TellsStrongCalls N before now = (calls : List Told) × (now ≡ told_more before calls) × All (IsStrongEvaluation N) calls

@@ -1,0 +1,4 @@
+pub mod Outside
+pub mod Encrypting
+pub mod Sessions
+pub mod Stopping

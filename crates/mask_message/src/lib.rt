@@ -1,0 +1,14 @@
+//! The command on messages: `enc`, which encrypts a message under a key that is split into lines.
+//!
+//! It reads the key file first, and then takes the message batch by batch: a batch is read, encrypted on shares, unmasked and
+//! written by one write before more is read. So where reading, the tape or memory fails, what was written is the ciphertext of
+//! whole batches, and only the last piece of a message, which is shorter, is encrypted without more behind it.
+//!
+//! `specs/Encrypting.antt` says for each status what was taken, drawn, told and written. Lengths are in bytes.
+#![tactic(auto)]
+
+mod bytes;
+mod encrypting;
+mod streaming;
+
+pub use encrypting::enc;

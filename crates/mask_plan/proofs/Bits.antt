@@ -1,0 +1,27 @@
+-- Bits of a byte and of a key.
+use Rattle.std.proofs.Common.{◌≡◌, ℕ, suc, ◌+◌, ◌-◌, ◌*◌, ◌/◌, ◌%◌, ◌<◌, Bool, true, false, List, [], ◌∷◌, length, map, get_or, refl, sym, ap, ap₂, ◌∙◌, arith}
+use Rattle.std.specs.Prelude.{slice_index}
+use mir.Val.{bool_byte}
+use Rattle.mask_bits.specs.Reading.{bit, high}
+use Rattle.mask_modes.proofs.Readings.{bytes_are_read}
+
+-- two lists that a map each takes to the same elements
+pub map_same : {A B C : Type 0} (f : A → C) (g : B → C) (xs : List A) (ys : List B) (d : A) (e : B) → length xs ≡ length ys →
+    ((k : ℕ) → k < length ys → f (get_or xs k d) ≡ g (get_or ys k e)) → map f xs ≡ map g ys
+map_same f g [] [] d e long same = refl
+map_same f g [] (y ∷ ys) d e long same = absurd (omega (arith, long))
+map_same f g (x ∷ xs) [] d e long same = absurd (omega (arith, long))
+map_same {A} {B} {C} f g (x ∷ xs) (y ∷ ys) d e long same =
+    ap₂ (λ (z : C) (zs : List C). z ∷ zs) (same 0 (omega arith))
+    (map_same f g xs ys d e (omega (arith, long)) (λ k lt. same (suc k) (omega (arith, lt))))
+
+pub bit_of_bool : (b : Bool) → bit 0 (bool_byte b) ≡ b
+bit_of_bool true = refl
+bit_of_bool false = refl
+
+-- where the bit of weight 2 ^ j of a big-endian number stands
+pub high_bit_is : (bytes : List ℕ) (j : ℕ) → j < 8 * length bytes → bit (j % 8) (slice_index bytes (length bytes - 1 - j / 8)) ≡ get_or (high bytes) j false
+high_bit_is bytes j lt =
+    let place : 8 * (length bytes - 1 - (length bytes - 1 - j / 8)) + j % 8 ≡ j = omega arith in
+    sym (bytes_are_read.high_place bytes (length bytes - 1 - j / 8) (j % 8) (omega arith) (omega arith))
+    ∙ ap (λ (i : ℕ). get_or (high bytes) i false) place

@@ -1,5 +1,0 @@
-use Rattle.mask_plan.proofs.Lanes.{lowest_in_all}
-use Rattle.mask_plan.proofs.shares.first_lane.Goals as goal
-
-pub returns : goal.returns
-returns c = λ l lt. lowest_in_all c.args.word l lt

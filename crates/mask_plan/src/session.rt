@@ -1,0 +1,251 @@
+//! A session.
+
+ghost use Rattle.std.specs.Prelude.{◌≡◌, ℕ, ◌+◌, ◌*◌, ◌<◌, ◌≤◌, true, false, [], length, slice_index, IfOk, OnOk, OnErr, Some, None, Err};
+ghost use Rattle.mask_io.specs.Outside.{faults_after};
+ghost use Rattle.mask_check.specs.Costs.{most_steps};
+ghost use Rattle.mask_counter.specs.Batches.{stand};
+ghost use Rattle.mask_tasks.specs.Tasks.{key_bytes, longest_message};
+ghost use Rattle.mask_keys.specs.Lines.{line_length};
+ghost use Rattle.mask_ciphers.specs.Tasks.{mode_of, key_shares};
+ghost use Rattle.mask_plan.specs.Sessions.{Answers, Begins, batch_length, out_words, failed_to_draw, stop_of};
+
+use crate::keys::shares_of_key;
+use crate::pieces::encrypt_piece;
+use crate::tasks::{bytes_at_once, place_in_block, run_of};
+use mask_ciphers::{lines_share_keys, tasks_encipher};
+use mask_circuit::Steps;
+use mask_counter::CounterRun;
+use mask_eval::Watch;
+use mask_io::Entropy;
+use mask_keys::KeyLines;
+use mask_shares::Shares;
+use mask_tape::{Tape, TapeError};
+use mask_tasks::{Task, message_limit};
+use std::alloc::{AllocError, Global};
+use std::marker::Model;
+use std::sync::ledger::Ledger;
+
+/// Why a session takes no more of a message.
+#[derive(Clone, Copy, Debug, PartialEq, Eq)]
+pub enum Stop {
+    /// The message is longer than this many bytes.
+    TooLong { limit: u64 },
+    /// Drawing from the tape failed.
+    TapeFault,
+    /// There is no memory.
+    NoMemory,
+}
+
+/// A call was refused.
+#[derive(Clone, Copy, Debug, PartialEq, Eq)]
+pub enum PlanError {
+    /// For this reason. The session is closed from now on.
+    Refused(Stop),
+    /// An earlier call was refused, for this reason.
+    Closed(Stop),
+}
+
+/// A message under a key in N shares, which is taken piece by piece.
+#[derive(Drop)]
+pub struct Session<const N: usize> {
+    alloc: Global,
+    task: Task,
+    run: CounterRun<N>,
+    fed: u64,
+    closed: Option<Stop>,
+    ended: bool,
+    written: u64,
+}
+
+impl<const N: usize> Model for Session<N> {
+    ghost use Rattle.mask_plan.specs.Sessions.{Progress};
+    ghost use Rattle.mask_plan.specs.Inside.{IsInOrder, progress};
+
+    ghost Value = { Progress };
+
+    ghost view = { λ s. progress s.task s.run s.fed s.closed s.ended s.written };
+
+    ghost invariant = { λ s. IsInOrder N s.task s.fed s.closed s.ended s.run };
+}
+
+impl<const N: usize> Session<N> {
+    /// A session with the key that these lines are shares of. Nothing is drawn, and no circuit is evaluated.
+    pub fn start<L: Ledger>(
+        alloc: Global,
+        task: &Task,
+        key: &KeyLines,
+        steps: &mut Steps<L>,
+    ) -> Result<Session<N>, AllocError>
+        requires some { 2 ≤ N }
+        requires few { N ≤ 8 }
+        requires lines { length key.now ≡ N }
+        requires length { line_length key.now ≡ key_bytes task.now }
+        ensures begins { IfOk result (Begins task.now (key_shares task.now key.now)) }
+        ensures steps { steps.new ≤ steps.old + (most_steps (mode_of task.now).circuit + most_steps (mode_of task.now).refresh) }
+    {
+        lines_share_keys();
+        let shares = shares_of_key::<N>(alloc, task, key)?;
+        let run = run_of(alloc, task, &shares, steps)?;
+        Ok(Session {
+            alloc,
+            task: *task,
+            run,
+            fed: 0,
+            closed: None,
+            ended: false,
+            written: 0,
+        })
+    }
+
+    /// How many bytes `feed` takes: 512 for PRESENT, which is 64 blocks of 8 bytes.
+    pub fn batch_bytes(&self) -> usize
+        ensures { result ≡ batch_length self.now.task }
+    {
+        bytes_at_once(&self.task)
+    }
+
+    /// Takes the next bytes of the message, as many as [`Session::batch_bytes`] says, and encrypts them.
+    ///
+    /// It is refused with `Closed` after any refusal, and then, in this order, where the message is too long, where there is no
+    /// memory, and where the tape fails. All memory is taken before the tape is asked.
+    pub fn feed<E: Entropy, W: Watch, L: Ledger>(
+        &mut self,
+        piece: &[u8],
+        tape: &mut Tape,
+        entropy: &mut E,
+        watch: &mut W,
+        steps: &mut Steps<L>,
+    ) -> Result<(), PlanError>
+        requires unended { self.old.ended ≡ false }
+        requires whole { length piece.now ≡ batch_length self.old.task }
+        ensures answers { Answers N self.old self.new piece.now false (E.wanted entropy.new) steps.old steps.new
+            (stand tape.old (E.left entropy.old) (W.told watch.old)) (stand tape.new (E.left entropy.new) (W.told watch.new)) result }
+        ensures closed { (stop : Stop) → self.old.closed ≡ Some stop → (result ≡ Err (PlanError.Closed stop))
+            × (tape.new ≡ tape.old) × (entropy.new ≡ entropy.old) × (watch.new ≡ watch.old) }
+        ensures long { self.old.closed ≡ None → longest_message self.old.task < self.old.fed + length piece.now →
+            (result ≡ Err (PlanError.Refused (Stop.TooLong (longest_message self.old.task))))
+            × (tape.new ≡ tape.old) × (entropy.new ≡ entropy.old) × (watch.new ≡ watch.old) }
+        ensures no_memory { result ≡ Err (PlanError.Refused Stop.NoMemory) → (tape.new ≡ tape.old) × (entropy.new ≡ entropy.old) }
+        ensures wants { failed_to_draw result ≡ false → E.wanted entropy.new ≡ E.wanted entropy.old }
+        ensures counts { E.faults entropy.new ≡ faults_after (failed_to_draw result) (E.faults entropy.old) }
+    {
+        self.take(piece, false, tape, entropy, watch, steps)
+    }
+
+    /// Takes the last bytes of the message, up to as many as [`Session::batch_bytes`] says, and encrypts them. After Ok the
+    /// session has ended. It is refused as `feed` is; with no bytes nothing is evaluated.
+    pub fn end<E: Entropy, W: Watch, L: Ledger>(
+        &mut self,
+        piece: &[u8],
+        tape: &mut Tape,
+        entropy: &mut E,
+        watch: &mut W,
+        steps: &mut Steps<L>,
+    ) -> Result<(), PlanError>
+        requires unended { self.old.ended ≡ false }
+        requires last { length piece.now ≤ batch_length self.old.task }
+        ensures answers { Answers N self.old self.new piece.now true (E.wanted entropy.new) steps.old steps.new
+            (stand tape.old (E.left entropy.old) (W.told watch.old)) (stand tape.new (E.left entropy.new) (W.told watch.new)) result }
+        ensures closed { (stop : Stop) → self.old.closed ≡ Some stop → (result ≡ Err (PlanError.Closed stop))
+            × (tape.new ≡ tape.old) × (entropy.new ≡ entropy.old) × (watch.new ≡ watch.old) }
+        ensures long { self.old.closed ≡ None → longest_message self.old.task < self.old.fed + length piece.now →
+            (result ≡ Err (PlanError.Refused (Stop.TooLong (longest_message self.old.task))))
+            × (tape.new ≡ tape.old) × (entropy.new ≡ entropy.old) × (watch.new ≡ watch.old) }
+        ensures nothing { piece.now ≡ [] → (tape.new ≡ tape.old) × (entropy.new ≡ entropy.old) × (watch.new ≡ watch.old) }
+        ensures no_memory { result ≡ Err (PlanError.Refused Stop.NoMemory) → (tape.new ≡ tape.old) × (entropy.new ≡ entropy.old) }
+        ensures wants { failed_to_draw result ≡ false → E.wanted entropy.new ≡ E.wanted entropy.old }
+        ensures counts { E.faults entropy.new ≡ faults_after (failed_to_draw result) (E.faults entropy.old) }
+    {
+        self.take(piece, true, tape, entropy, watch, steps)
+    }
+
+    // Takes these bytes, the last of the message or not.
+    fn take<E: Entropy, W: Watch, L: Ledger>(
+        &mut self,
+        piece: &[u8],
+        last: bool,
+        tape: &mut Tape,
+        entropy: &mut E,
+        watch: &mut W,
+        steps: &mut Steps<L>,
+    ) -> Result<(), PlanError>
+        requires unended { self.old.ended ≡ false }
+        requires few { length piece.now ≤ batch_length self.old.task }
+        requires whole { last ≡ false → length piece.now ≡ batch_length self.old.task }
+        ensures answers { Answers N self.old self.new piece.now last (E.wanted entropy.new) steps.old steps.new
+            (stand tape.old (E.left entropy.old) (W.told watch.old)) (stand tape.new (E.left entropy.new) (W.told watch.new)) result }
+        ensures closed { (stop : Stop) → self.old.closed ≡ Some stop → (result ≡ Err (PlanError.Closed stop))
+            × (tape.new ≡ tape.old) × (entropy.new ≡ entropy.old) × (watch.new ≡ watch.old) }
+        ensures long { self.old.closed ≡ None → longest_message self.old.task < self.old.fed + length piece.now →
+            (result ≡ Err (PlanError.Refused (Stop.TooLong (longest_message self.old.task))))
+            × (tape.new ≡ tape.old) × (entropy.new ≡ entropy.old) × (watch.new ≡ watch.old) }
+        ensures nothing { piece.now ≡ [] → (tape.new ≡ tape.old) × (entropy.new ≡ entropy.old) × (watch.new ≡ watch.old) }
+        ensures no_memory { result ≡ Err (PlanError.Refused Stop.NoMemory) → (tape.new ≡ tape.old) × (entropy.new ≡ entropy.old) }
+        ensures wants { failed_to_draw result ≡ false → E.wanted entropy.new ≡ E.wanted entropy.old }
+        ensures counts { E.faults entropy.new ≡ faults_after (failed_to_draw result) (E.faults entropy.old) }
+    {
+        if let Some(stop) = self.closed {
+            return Err(PlanError::Closed(stop));
+        }
+        let limit = message_limit(&self.task);
+        let length = piece.len() as u64;
+        if limit - self.fed < length {
+            self.closed = Some(Stop::TooLong { limit });
+            return Err(PlanError::Refused(Stop::TooLong { limit }));
+        }
+        tasks_encipher();
+        match encrypt_piece(
+            self.alloc,
+            &mut self.run,
+            piece,
+            tape,
+            entropy,
+            watch,
+            steps,
+        ) {
+            Ok(()) => {}
+            Err(error) => {
+                let stop = stop_for(error);
+                self.closed = Some(stop);
+                return Err(PlanError::Refused(stop));
+            }
+        }
+        self.fed += length;
+        self.ended = last;
+        self.written = length;
+        Ok(())
+    }
+
+    /// Whether the message has ended.
+    pub fn ended(&self) -> bool
+        ensures { result ≡ self.now.ended }
+    {
+        self.ended
+    }
+
+    /// How many bytes the latest call, if it was Ok, has to hand out.
+    pub fn written(&self) -> u64
+        ensures { result ≡ self.now.written }
+    {
+        self.written
+    }
+
+    /// The shares of bit `place` of byte `byte` of the latest blocks, a block in each lane. Place 0 is the lowest bit.
+    pub fn out_bit(&self, byte: u32, place: u32) -> Shares<N>
+        requires byte { byte < (mode_of self.now.task).block }
+        requires place { place < 8 }
+        ensures { result ≡ out_words self.now byte place }
+    {
+        let outputs = self.run.outputs();
+        outputs[place_in_block(&self.task, byte, place)]
+    }
+}
+
+fn stop_for(error: TapeError) -> Stop
+    ensures { result ≡ stop_of error }
+{
+    match error {
+        TapeError::Failed => Stop::TapeFault,
+        TapeError::NoMemory => Stop::NoMemory,
+    }
+}

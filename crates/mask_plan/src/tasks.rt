@@ -1,0 +1,85 @@
+//! What a session takes from its task.
+
+ghost use Rattle.std.specs.Prelude.{◌≡◌, ◌+◌, ◌*◌, ◌<◌, ◌≤◌, length, map, IfOk};
+ghost use Rattle.mask_bits.specs.Lanes.{lane};
+ghost use Rattle.mask_check.specs.Costs.{most_steps};
+ghost use Rattle.mask_tasks.specs.Sizes.{present_bytes};
+ghost use Rattle.mask_tasks.specs.Tasks.{key_bytes};
+ghost use Rattle.mask_ciphers.specs.Tasks.{mode_of, present_mode};
+ghost use Rattle.mask_plan.specs.Sessions.{batch_length, bit_place};
+ghost use Rattle.mask_plan.specs.Inside.{BeginsRun};
+
+use mask_circuit::Steps;
+use mask_counter::{BitOrder, CounterRun};
+use mask_present::present_circuit;
+use mask_refresh::refresh_circuit;
+use mask_shares::Shares;
+use mask_tasks::{KeySize, Task};
+use std::alloc::{AllocError, Global};
+use std::sync::ledger::Ledger;
+
+/// How many bytes are taken at once.
+pub(crate) fn bytes_at_once(task: &Task) -> usize
+    ensures { result ≡ batch_length task.now }
+{
+    match *task {
+        Task::Present { .. } => 512,
+    }
+}
+
+/// Where a block has bit `place` of its byte `byte`.
+pub(crate) fn place_in_block(task: &Task, byte: u32, place: u32) -> usize
+    requires byte { byte < (mode_of task.now).block }
+    requires place { place < 8 }
+    ensures value { result ≡ bit_place task.now byte place }
+    ensures bound { result < 8 * (mode_of task.now).block }
+{
+    match *task {
+        Task::Present { .. } => 8 * (7 - byte as usize) + place as usize,
+    }
+}
+
+/// A run of the task's cipher with the key whose bits have these shares in lane 0.
+pub(crate) fn run_of<const N: usize, L: Ledger>(
+    alloc: Global,
+    task: &Task,
+    key: &[Shares<N>],
+    steps: &mut Steps<L>,
+) -> Result<CounterRun<N>, AllocError>
+    requires some { 2 ≤ N }
+    requires few { N ≤ 8 }
+    requires length { length key.now ≡ 8 * key_bytes task.now }
+    ensures begins { IfOk result (BeginsRun (mode_of task.now) (map (lane 0) key.now)) }
+    ensures steps { steps.new ≤ steps.old + (most_steps (mode_of task.now).circuit + most_steps (mode_of task.now).refresh) }
+{
+    match *task {
+        Task::Present { size, iv } => present_run(alloc, size, iv, key, steps),
+    }
+}
+
+// A run of PRESENT with this key and IV.
+fn present_run<const N: usize, L: Ledger>(
+    alloc: Global,
+    size: KeySize,
+    iv: u64,
+    key: &[Shares<N>],
+    steps: &mut Steps<L>,
+) -> Result<CounterRun<N>, AllocError>
+    requires some { 2 ≤ N }
+    requires few { N ≤ 8 }
+    requires length { length key.now ≡ 8 * present_bytes size }
+    ensures begins { IfOk result (BeginsRun (present_mode size iv) (map (lane 0) key.now)) }
+    ensures steps { steps.new ≤ steps.old + (most_steps (present_mode size iv).circuit + most_steps (present_mode size iv).refresh) }
+{
+    let circuit = present_circuit(alloc, size, steps)?;
+    let refresh = refresh_circuit(alloc, 8 * size.bytes(), steps)?;
+    CounterRun::new(
+        alloc,
+        circuit,
+        refresh,
+        8,
+        BitOrder::HighFirst,
+        u128::from(iv),
+        key,
+    )
+}

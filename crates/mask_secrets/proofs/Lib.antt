@@ -1,0 +1,3 @@
+pub mod Deciding
+pub mod Drawing
+pub mod Stopping

@@ -1,0 +1,4 @@
+pub mod KeyEnds
+pub mod Splitting
+pub mod Joining
+pub mod Laws
