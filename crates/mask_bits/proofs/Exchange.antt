@@ -7,8 +7,8 @@ use Rattle.std.proofs.lemmas.Nat.{and_mask, pow-add, pow_pos}
 use Rattle.std.proofs.Math.Nat.{div-div-eq-div-mul}
 use Rattle.std.proofs.lemmas.Nat.Bits.{bit_at_and, bit_at_or, bit_at_not, bit_at_ones, bit_at-lt, bit_at-zero, bit_at_cat_low, bit_at_cat_high}
 use Rattle.mask_bits.specs.Reading.{bit}
-use Rattle.mask_bits.specs.Square.{IsTransposed, IsWidth, IsMask, IsExchanged, across}
-use Rattle.mask_bits.proofs.Places.{below, below_other, mix, across-lt, mix-across}
+use Rattle.mask_bits.specs.Square.{IsTransposed, IsMask, IsExchanged, across}
+use Rattle.mask_bits.proofs.Places.{IsWidth, below, below_other, mix, across-lt, mix-across}
 
 -- the bits of a word that is cut to 64, shifted down, shifted up
 bit_at-mod : (n k j : ℕ) → j < k → bit_at (n % 2 ^ k) j ≡ bit_at n j

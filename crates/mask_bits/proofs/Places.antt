@@ -1,6 +1,11 @@
 -- Places below 64 and their binary digits.
-use Rattle.std.proofs.Common.{◌≡◌, ℕ, ◌+◌, ◌-◌, ◌*◌, ◌/◌, ◌%◌, ◌<◌, ◌≤◌, inl, inr, subst, sym, arith}
-use Rattle.mask_bits.specs.Square.{IsWidth, across}
+use Rattle.std.proofs.Common.{◌≡◌, ℕ, suc, zero, ◌+◌, ◌-◌, ◌*◌, ◌/◌, ◌%◌, ◌^◌, ◌<◌, ◌≤◌, ◌⊎◌, inl, inr, refl, subst, sym, ◌∙◌, arith}
+use Rattle.std.proofs.Math.Nat.{mod-eq_of_lt}
+use Rattle.mask_bits.specs.Square.{across}
+
+-- a power of two below 64
+abbrev pub IsWidth : ℕ → Type 0
+IsWidth w = (w ≡ 32) ⊎ (w ≡ 16) ⊎ (w ≡ 8) ⊎ (w ≡ 4) ⊎ (w ≡ 2) ⊎ (w ≡ 1)
 
 -- what holds of each width
 by_width : (P : ℕ → Type 0) → P 32 → P 16 → P 8 → P 4 → P 2 → P 1 → (w : ℕ) → IsWidth w → P w
@@ -10,6 +15,25 @@ by_width P a b c d e f w (inr (inr (inl h))) = subst P (sym h) c
 by_width P a b c d e f w (inr (inr (inr (inl h)))) = subst P (sym h) d
 by_width P a b c d e f w (inr (inr (inr (inr (inl h))))) = subst P (sym h) e
 by_width P a b c d e f w (inr (inr (inr (inr (inr h))))) = subst P (sym h) f
+
+-- none is as wide as the square
+width_below : (w : ℕ) → IsWidth w → w < 64
+width_below = by_width (λ w. w < 64) (omega arith) (omega arith) (omega arith) (omega arith) (omega arith) (omega arith)
+
+-- a binary digit of a place below 64 weighs as much
+pub width_of : (digit : ℕ) → digit < 6 → IsWidth (2 ^ digit)
+width_of zero lt = inr (inr (inr (inr (inr refl))))
+width_of (suc zero) lt = inr (inr (inr (inr (inl refl))))
+width_of (suc (suc zero)) lt = inr (inr (inr (inl refl)))
+width_of (suc (suc (suc zero))) lt = inr (inr (inl refl))
+width_of (suc (suc (suc (suc zero)))) lt = inr (inl refl)
+width_of (suc (suc (suc (suc (suc zero))))) lt = inl refl
+width_of (suc (suc (suc (suc (suc (suc digit)))))) lt = absurd (omega arith)
+
+-- a one that is shifted to this digit, and how far rows and places move for it
+pub shifted_one : (digit : ℕ) → digit < 6 → (1 * 2 ^ digit % 2 ^ 64 ≡ 2 ^ digit) × (2 ^ digit < 64)
+shifted_one digit lt =
+    let small = width_below (2 ^ digit) (width_of digit lt) in (mod-eq_of_lt (omega arith) ∙ omega arith, small)
 
 -- a place without the digit has a partner above
 pub above : (w : ℕ) → IsWidth w → (i : ℕ) → i < 64 → i / w % 2 ≡ 0 → i + w < 64

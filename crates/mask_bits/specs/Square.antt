@@ -1,14 +1,10 @@
 -- A square of bits: 64 rows of 64.
-use Rattle.std.specs.Prelude.{◌≡◌, ℕ, ◌+◌, ◌-◌, ◌*◌, ◌/◌, ◌%◌, ◌<◌, ◌⊎◌, nat_eq, List, slice_index}
+use Rattle.std.specs.Prelude.{◌≡◌, ℕ, ◌+◌, ◌-◌, ◌*◌, ◌/◌, ◌%◌, ◌<◌, nat_eq, List, slice_index}
 use Rattle.mask_bits.specs.Reading.{bit}
 
 -- bit j of row i becomes bit i of row j
 abbrev pub IsTransposed : List ℕ → List ℕ → Type 0
 IsTransposed old new = (i j : ℕ) → i < 64 → j < 64 → bit i (slice_index new j) ≡ bit j (slice_index old i)
-
--- a power of two below 64
-abbrev pub IsWidth : ℕ → Type 0
-IsWidth w = (w ≡ 32) ⊎ (w ≡ 16) ⊎ (w ≡ 8) ⊎ (w ≡ 4) ⊎ (w ≡ 2) ⊎ (w ≡ 1)
 
 -- the mask has the bits whose places lack the binary digit of weight w
 abbrev pub IsMask : ℕ → ℕ → Type 0

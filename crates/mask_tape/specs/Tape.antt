@@ -1,5 +1,5 @@
 -- What a tape gives: the next bits of its stretch, each lane its own part.
-use Rattle.std.specs.Prelude.{◌≡◌, ℕ, ◌+◌, ◌-◌, ◌*◌, ◌<◌, ◌≤◌, Bool, true, false, List, ◌++◌, length, take, drop, replicate, Option, Result, Err}
+use Rattle.std.specs.Prelude.{◌≡◌, ℕ, ◌-◌, ◌*◌, ◌<◌, ◌≤◌, Bool, true, false, List, ◌++◌, length, take, drop, replicate, Option, Result, Err}
 use Rattle.mask_bits.specs.Reading.{low, bytes_for}
 use Rattle.mask_bits.specs.Lanes.{lane}
 use Rattle.mask_io.specs.Outside.{Takes}

@@ -52,12 +52,23 @@ fn window(bytes: &[u8], at: usize, count: usize) -> u64
     let first = at / 8;
     let last = bytes.len().min(first + 9);
     let wide = little_endian(&bytes[first..last]);
-    ((wide >> (at % 8)) % (1 << count)) as u64
+    ((wide >> (at % 8)) & ((1 << count) - 1)) as u64
 }
 
 // The number that up to nine bytes stand for, the lowest byte first.
 fn little_endian(bytes: &[u8]) -> u128
     requires { length bytes.now ≤ 9 }
+    ensures { result ≡ number (low bytes.now) }
+{
+    match bytes.split_first_chunk::<8>() {
+        Some((eight, rest)) => u128::from(u64::from_le_bytes(*eight)) + (one_by_one(rest) << 64),
+        None => one_by_one(bytes),
+    }
+}
+
+// The same, of fewer bytes than eight.
+fn one_by_one(bytes: &[u8]) -> u128
+    requires { length bytes.now < 8 }
     ensures { result ≡ number (low bytes.now) }
 {
     let mut wide = 0;
