@@ -16,14 +16,14 @@ bit_at-mod n k j h =
     let small = bit_at-lt n j in
     rw (← and_mask n k, bit_at_and n (2 ^ k - 1) j, bit_at_ones k j h) (omega arith)
 
-bit_at-shr : (n w j : ℕ) → bit_at (n / 2 ^ w) j ≡ bit_at n (w + j)
+pub bit_at-shr : (n w j : ℕ) → bit_at (n / 2 ^ w) j ≡ bit_at n (w + j)
 bit_at-shr n w j = rw (div-div-eq-div-mul n (2 ^ w) (2 ^ j), ← pow-add 2 w j) refl
 
-bit_at-shl_low : (n w j : ℕ) → j < w → j < 64 → bit_at (n * 2 ^ w % 2 ^ 64) j ≡ 0
+pub bit_at-shl_low : (n w j : ℕ) → j < w → j < 64 → bit_at (n * 2 ^ w % 2 ^ 64) j ≡ 0
 bit_at-shl_low n w j h k =
     bit_at-mod (n * 2 ^ w) 64 j k ∙ ap (λ m. bit_at m j) (sym (add-zero (n * 2 ^ w))) ∙ bit_at_cat_low n w 0 j h ∙ bit_at-zero j
 
-bit_at-shl_high : (n w j : ℕ) → w ≤ j → j < 64 → bit_at (n * 2 ^ w % 2 ^ 64) j ≡ bit_at n (j - w)
+pub bit_at-shl_high : (n w j : ℕ) → w ≤ j → j < 64 → bit_at (n * 2 ^ w % 2 ^ 64) j ≡ bit_at n (j - w)
 bit_at-shl_high n w j h k =
     bit_at-mod (n * 2 ^ w) 64 j k ∙ ap (λ m. bit_at m j) (sym (add-zero (n * 2 ^ w))) ∙ bit_at_cat_high n w 0 j (pow_pos w) h
 

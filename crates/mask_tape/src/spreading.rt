@@ -1,6 +1,6 @@
 //! Bits that lie in bytes, spread over the lanes of words.
 
-ghost use Rattle.std.specs.Prelude.{◌≡◌, ℕ, ◌+◌, ◌-◌, ◌*◌, ◌^◌, ◌<◌, ◌≤◌, false, length, drop, slice_index, slice_index_or};
+ghost use Rattle.std.specs.Prelude.{◌≡◌, ℕ, ◌+◌, ◌*◌, ◌^◌, ◌<◌, ◌≤◌, false, length, take, drop, slice_index, slice_index_or};
 ghost use Rattle.mask_bits.specs.Reading.{bit, low, number};
 ghost use Rattle.mask_tape.specs.Tape.{IsSpread};
 
@@ -18,62 +18,63 @@ pub(crate) fn spread(bytes: &[u8], at: usize, lanes: usize, words: &mut [u64])
     let mut first = 0;
     while first < bits {
         let count = (bits - first).min(64);
-        let columns = square(bytes, at + first, lanes, bits, count);
+        let columns = square(bytes, at + first, lanes, bits);
         words[first..first + count].copy_from_slice(&columns[..count]);
         first += count;
     }
 }
 
-// Words of which word k has in lane l the bit at `at + l * bits + k`, for k below `count`.
-fn square(bytes: &[u8], at: usize, lanes: usize, bits: usize, count: usize) -> [u64; 64]
+// Words of which word k has in lane l the bit at `at + l * bits + k`.
+fn square(bytes: &[u8], at: usize, lanes: usize, bits: usize) -> [u64; 64]
     requires lanes { lanes ≤ 64 }
-    requires few { count ≤ 64 }
-    requires within { (l : ℕ) → l < lanes → at + l * bits + count ≤ 8 * length bytes.now }
+    requires within { (l : ℕ) → l < lanes → at + l * bits ≤ 8 * length bytes.now }
     requires small { 8 * length bytes.now < 2 ^ 63 }
-    ensures used { (k l : ℕ) → k < count → l < lanes
+    ensures used { (k l : ℕ) → k < 64 → l < lanes
         → bit l (slice_index result k) ≡ slice_index_or (low bytes.now) (at + l * bits + k) false }
-    ensures unused { (k l : ℕ) → k < count → lanes ≤ l → l < 64 → bit l (slice_index result k) ≡ false }
+    ensures unused { (k l : ℕ) → k < 64 → lanes ≤ l → l < 64 → bit l (slice_index result k) ≡ false }
 {
     let mut rows = [0; 64];
     for lane in 0..lanes {
-        rows[lane] = window(bytes, at + lane * bits, count);
+        rows[lane] = window(bytes, at + lane * bits);
     }
     transpose_64(&mut rows);
     rows
 }
 
-// The `count` bits of the bytes from bit `at` on, the first one lowest.
-fn window(bytes: &[u8], at: usize, count: usize) -> u64
-    requires few { count ≤ 64 }
-    requires within { at + count ≤ 8 * length bytes.now }
-    ensures inside { (j : ℕ) → j < count → bit j result ≡ slice_index_or (low bytes.now) (at + j) false }
-    ensures outside { (j : ℕ) → count ≤ j → bit j result ≡ false }
+// The 64 bits from bit `at` on, the first one lowest, and zeros past the end.
+fn window(bytes: &[u8], at: usize) -> u64
+    requires { at ≤ 8 * length bytes.now }
+    ensures { (j : ℕ) → j < 64 → bit j result ≡ slice_index_or (low bytes.now) (at + j) false }
 {
-    let first = at / 8;
-    let last = bytes.len().min(first + 9);
-    let wide = little_endian(&bytes[first..last]);
-    ((wide >> (at % 8)) & ((1 << count) - 1)) as u64
+    let rest = &bytes[at / 8..];
+    let shift = at % 8;
+    let eight = little_endian(rest);
+    if shift == 0 {
+        return eight;
+    }
+    (eight >> shift) | (byte_or_zero(rest, 8) << (64 - shift))
 }
 
-// The number that up to nine bytes stand for, the lowest byte first.
-fn little_endian(bytes: &[u8]) -> u128
-    requires { length bytes.now ≤ 9 }
-    ensures { result ≡ number (low bytes.now) }
+// The byte at this place, and zero past the end.
+fn byte_or_zero(bytes: &[u8], place: usize) -> u64
+    ensures { result ≡ slice_index_or bytes.now place 0 }
 {
-    match bytes.split_first_chunk::<8>() {
-        Some((eight, rest)) => u128::from(u64::from_le_bytes(*eight)) + (one_by_one(rest) << 64),
-        None => one_by_one(bytes),
+    match bytes.get(place) {
+        Some(byte) => u64::from(*byte),
+        None => 0,
     }
 }
 
-// The same, of fewer bytes than eight.
-fn one_by_one(bytes: &[u8]) -> u128
-    requires { length bytes.now < 8 }
-    ensures { result ≡ number (low bytes.now) }
+// The number that the first eight bytes stand for, or as many as there are, the lowest byte first.
+fn little_endian(bytes: &[u8]) -> u64
+    ensures { result ≡ number (low (take 8 bytes.now)) }
 {
-    let mut wide = 0;
-    for k in 0..bytes.len() {
-        wide = wide * 256 + u128::from(bytes[bytes.len() - 1 - k]);
+    match bytes.first_chunk::<8>() {
+        Some(eight) => u64::from_le_bytes(*eight),
+        None => {
+            let mut eight = [0; 8];
+            eight[..bytes.len()].copy_from_slice(bytes);
+            u64::from_le_bytes(eight)
+        }
     }
-    wide
 }

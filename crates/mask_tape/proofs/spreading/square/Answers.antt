@@ -17,6 +17,6 @@ loop-lane-preserved c =
     record {
       count = simp length-set count;
       done = row_set (λ m j. get_or (low c.args.bytes.now) (c.args.at + m * c.args.bits + j) false) c.loop-lane.rows c.loop-lane.lane c.window.result
-          c.args.count (omega arith) c.loop-lane.invariant.done c.window.ensures.inside;
+          64 (omega arith) c.loop-lane.invariant.done c.window.ensures;
       clear = row_clear c.loop-lane.rows c.loop-lane.lane c.window.result c.loop-lane.invariant.clear;
     }
