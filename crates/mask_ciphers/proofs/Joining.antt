@@ -118,6 +118,6 @@ lines_join (Present size iv) lines equal long = shares_of_bits high high_reads_b
 
 pub lines_share_keys : LinesShareKeys
 lines_share_keys = record {
-  has_key = λ task lines long. lines_have_key task lines;
-  joins = λ task lines are bytes long. lines_join task lines are.equal long;
+  has_key = lines_have_key;
+  joins = λ task lines are. lines_join task lines are.equal;
 }

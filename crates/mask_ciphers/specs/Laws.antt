@@ -1,5 +1,5 @@
 -- What holds of every task.
-use Rattle.std.specs.Prelude.{◌≡◌, ℕ, suc, ◌*◌, ◌≤◌, List, length, take, All}
+use Rattle.std.specs.Prelude.{◌≡◌, ℕ, suc, ◌*◌, ◌≤◌, List, length, take}
 use Rattle.mask_tasks.specs.declared.tasks.Task.{Task}
 use Rattle.mask_tasks.specs.Tasks.{key_bytes}
 use Rattle.mask_keys.specs.Lines.{AreKeyLines, line_length, joined}
@@ -7,7 +7,6 @@ use Rattle.mask_trace.specs.Steps.{bits_of}
 use Rattle.mask_trace.specs.Laws.{IsRun}
 use Rattle.mask_trace.specs.Privacy.{IsPrivateTrace}
 use Rattle.mask_modes.specs.CounterMode.{ciphertext_from}
-use Rattle.mask_bits.specs.Reading.{AreBytes}
 use Rattle.mask_modes.specs.Steps.{Enciphers}
 use Rattle.mask_modes.specs.Outputs.{HasKey, key_of}
 use Rattle.mask_ciphers.specs.Tasks.{cipher_of, mode_of, key_bits, output, plan, with_lines}
@@ -32,8 +31,8 @@ RunsDrawTotals = (task : Task) (d : ℕ) (message : List ℕ) → bits_of (suc d
 
 -- Key lines are shares of the bits of the key that they join to.
 pub record LinesShareKeys : Type 0 where
-  pub has_key : (task : Task) (lines : List (List ℕ)) → line_length lines ≡ key_bytes task → HasKey (length lines) (mode_of task) (with_lines task lines)
-  pub joins : (task : Task) (lines : List (List ℕ)) → AreKeyLines lines → All AreBytes lines → line_length lines ≡ key_bytes task →
+  pub has_key : (task : Task) (lines : List (List ℕ)) → HasKey (length lines) (mode_of task) (with_lines task lines)
+  pub joins : (task : Task) (lines : List (List ℕ)) → AreKeyLines lines → line_length lines ≡ key_bytes task →
       key_of (with_lines task lines) ≡ key_bits task (joined lines)
 
 -- A run that breaks off behind any of its steps is a strong run in the probing model, and private: any d wires of all its

@@ -210,7 +210,7 @@ module _ (task : Task) (N : ℕ) (lines : List (List ℕ)) (o : Outside) (kept :
       let same : take limit (front ++ piece) ≡ front = ap (λ (n : ℕ). take n (front ++ piece)) (sym all) ∙ take-append_seam front piece in (
         front ++ piece,
         Consumes-trans o.left_before left o.left_after front piece so_far.taken taken,
-        (is, rw (length-append front piece) over, rw same (wrote_batches unwritten stop.2)),
+        (is, rw (length-append front piece) over, rw (length-append front piece) (omega arith), rw same (wrote_batches unwritten stop.2)),
       )
   refused piece steps steps' stops.TapeFault taken few unwritten stop = (
     front ++ piece,

@@ -31,7 +31,7 @@ use Rattle.mask_ciphers.proofs.Joining.{lines_share_keys}
 pub tells_nothing : (N : ℕ) (before now : Option (List Told)) → now ≡ before → TellsStrongCalls N before now
 tells_nothing N before now same = ([], same ∙ told_more-none before, All-nil (IsStrongEvaluation N))
 
-module _ (task : Task) (N : ℕ) (lines : List (List ℕ)) (o : Outside) (some : 2 ≤ N) (many : length lines ≡ N) (long : line_length lines ≡ key_bytes task) where
+module _ (task : Task) (N : ℕ) (lines : List (List ℕ)) (o : Outside) (some : 2 ≤ N) (many : length lines ≡ N) where
   steps_tell : (bytes : List ℕ) (count : ℕ) → RanSteps task N lines bytes count o → TellsStrongCalls N o.told_before o.told_after
   steps_tell bytes count ran =
       let m = mode_of task in
@@ -40,7 +40,7 @@ module _ (task : Task) (N : ℕ) (lines : List (List ℕ)) (o : Outside) (some :
       let more : List Bool = replicate (bits_of N steps) false in
       let tape : List Bool = [] ++ low ran.part.ran.fresh ++ more in
       let strong : IsStrongPlan m.key 0 steps = steps_are_strong.strong m (cipher_of task) 0 (blocks m.block bytes) (tasks_encipher task) (blocks_are_long m.block bytes) in
-      let has : HasKey N m held = subst (λ (n : ℕ). HasKey n m held) many (lines_share_keys.has_key task lines long) in
+      let has : HasKey N m held = subst (λ (n : ℕ). HasKey n m held) many (lines_share_keys.has_key task lines) in
       let enough : bits_of N steps ≤ length tape = omega (arith, length-append (low ran.part.ran.fresh) more, length-replicate {A = Bool} (bits_of N steps) false) in (
         take count (trace N held steps tape),
         parts_are_beginnings N held steps count (at_first o) (at_last ran.kept o) ran.part more,
@@ -51,7 +51,7 @@ module _ (task : Task) (N : ℕ) (lines : List (List ℕ)) (o : Outside) (some :
   pub streams_tell : (bytes : List ℕ) (status : Status) → Streams task N lines bytes o status → TellsStrongCalls N o.told_before o.told_after
   streams_tell bytes Done e = steps_tell bytes _ e.ran
   streams_tell bytes WriteFault e = steps_tell bytes _ e.ran
-  streams_tell bytes (TooLong limit) e = steps_tell (take limit bytes) _ e.2.ran
+  streams_tell bytes (TooLong limit) e = steps_tell (take limit bytes) _ e.3.ran
   streams_tell bytes ReadFault e = steps_tell e.0 _ e.4.ran
   streams_tell bytes NoMemory e = steps_tell e.0 _ e.4.ran
   streams_tell bytes TapeFault e = steps_tell bytes e.count e.ran

@@ -83,7 +83,8 @@ pub record FailsToDraw (task : Task) (N : ℕ) (lines : List (List ℕ)) (bytes 
 abbrev pub Streams : Task → ℕ → List (List ℕ) → List ℕ → Outside → Status → Type 0
 Streams task N lines bytes o Done = Encrypts task N lines bytes o
 Streams task N lines bytes o WriteFault = CutsOff task N lines bytes o
-Streams task N lines bytes o (TooLong limit) = (limit ≡ longest_message task) × (limit < length bytes) × WroteBatches task N lines (take limit bytes) o
+Streams task N lines bytes o (TooLong limit) = (limit ≡ longest_message task) × (limit < length bytes) × (length bytes ≤ limit + batch_length task)
+    × WroteBatches task N lines (take limit bytes) o
 Streams task N lines bytes o ReadFault = BreaksOff task N lines bytes o (λ n. n < batch_length task)
 Streams task N lines bytes o NoMemory = BreaksOff task N lines bytes o (λ n. n ≤ batch_length task)
 Streams task N lines bytes o TapeFault = FailsToDraw task N lines bytes o

@@ -9,4 +9,4 @@ mod evaluation;
 mod hexadecimal;
 
 pub use command::mask_main;
-pub use mask_status::{Status, status_number, status_text};
+pub use mask_status::{KeyReason, Status, status_number, status_text};

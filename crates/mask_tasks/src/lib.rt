@@ -1,4 +1,4 @@
-//! What a message can be encrypted with: the sizes of the cipher, the tasks, and the named circuits.
+//! What a message can be encrypted with: the sizes of the ciphers, the tasks, and the named circuits.
 #![tactic(auto)]
 
 mod names;
@@ -6,7 +6,7 @@ mod sizes;
 mod tasks;
 
 pub use names::{Named, circuit_named, names_are_distinct};
-pub use sizes::KeySize;
+pub use sizes::{KeySize, LeaSize};
 pub use tasks::{Task, key_length, message_limit};
 
 #[cfg(test)]

@@ -1,4 +1,4 @@
-use crate::{KeySize, Named, Task, circuit_named, key_length, message_limit};
+use crate::{KeySize, LeaSize, Named, Task, circuit_named, key_length, message_limit};
 
 #[test]
 fn circuits_are_found_by_name(rt: HostRuntime) {
@@ -18,4 +18,5 @@ fn tasks_have_lengths(rt: HostRuntime) {
     };
     assert_eq!(rt; key_length(&cipher), 10);
     assert_eq!(rt; message_limit(&cipher), 268_435_456);
+    assert_eq!(rt; LeaSize::K192.bytes(), 24);
 }

@@ -2,7 +2,7 @@
 
 use crate::runs::{Outcome, SEED, run_on};
 use mask_io::{ClosedEntropy, ClosedSource, MemEntropy, MemSink, MemSource};
-use mask_run::{Status, status_number};
+use mask_run::{KeyReason, Status, status_number};
 use std::alloc::{AllocError, Global};
 use std::test::Fail;
 
@@ -31,6 +31,22 @@ fn splits_and_joins(rt: HostRuntime) -> Result<(), Fail> {
         let outcome = on_keys(rt.alloc(), &["-", SEED, command, "1"], keys)?;
         assert_eq!(rt; outcome.status, Status::Done, "{command}");
         assert_eq!(rt; outcome.written.as_slice(), written.as_bytes(), "{command}");
+    }
+    Ok(())
+}
+
+// What is wrong with a key file decides, and nothing is written.
+#[test]
+fn says_what_is_wrong_with_keys(rt: HostRuntime) -> Result<(), Fail> {
+    for (command, keys, reason) in [
+        ("split", "0g\n", KeyReason::Line { line: 1 }),
+        ("split", "00\nff\n", KeyReason::Count { found: 2 }),
+        ("join", "00ff\n00\n", KeyReason::Line { line: 2 }),
+        ("join", "00ff\n", KeyReason::Count { found: 1 }),
+    ] {
+        let outcome = on_keys(rt.alloc(), &["-", SEED, command, "1"], keys)?;
+        assert_eq!(rt; outcome.status, Status::BadKeys(reason), "{command}");
+        assert!(rt; outcome.written.is_empty());
     }
     Ok(())
 }

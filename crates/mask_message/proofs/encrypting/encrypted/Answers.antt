@@ -42,7 +42,7 @@ returns-clause-secure g c =
     let many : g.row.N ≡ suc c.args.order = sym c.requires.order ∙ add-one c.args.order in
     subst (λ (n : ℕ). TellsStrongCalls n (g.W.Watch.told c.args.watch.now) (g.W.Watch.told c.stream.new.watch)) many
     (streams_tell c.args.task.now g.row.N c.in-Ok.lines _ c.requires.some (read.2.file.many ∙ c.requires.order)
-    (lines_long c.args.task.now c.args.order _ c.key_length.ensures read.0 _ c.in-Ok.lines read.2) takes.0 c.stream.result takes.2)
+    takes.0 c.stream.result takes.2)
 
 pub returns-clause-key_faults : goal.returns-clause-key_faults
 returns-clause-key_faults g c =

@@ -13,7 +13,7 @@ invariant_of-result g c =
     = c.in_ok-run.ensures.begins.key ∙ ap (map (lane 0)) c.deref.ensures.value ∙ c.in_ok-shares.ensures.shares in
     let lines : HasKey g.row.N (mode_of c.args.task.now) (with_lines c.args.task.now c.args.key.now)
     = subst (λ (n : ℕ). HasKey n (mode_of c.args.task.now) (with_lines c.args.task.now c.args.key.now)) c.requires.lines
-    (c.lines_share_keys.ensures.has_key c.args.task.now c.args.key.now c.requires.length) in
+    (c.lines_share_keys.ensures.has_key c.args.task.now c.args.key.now) in
     let has : HasKey g.row.N (mode_of c.args.task.now) (have c.in_ok-run.run')
     = subst (λ (key : List BitShares). HasKey g.row.N (mode_of c.args.task.now) (record { key = key; state = [] })) (sym shares) lines in
     record {
