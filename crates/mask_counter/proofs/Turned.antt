@@ -1,15 +1,16 @@
 -- Blocks as rows of bits, and the rows turned.
-use Rattle.std.proofs.Common.{◌≡◌, ℕ, suc, ◌+◌, ◌-◌, ◌*◌, ◌^◌, ◌<◌, ◌≤◌, Bool, false, List, ◌∷◌, ◌++◌, length, take, drop, get_or, refl, sym, ap, ap₂, ◌∙◌, arith, length-drop}
+use Rattle.std.proofs.Common.{◌≡◌, ℕ, suc, ◌+◌, ◌-◌, ◌*◌, ◌%◌, ◌^◌, ◌<◌, ◌≤◌, Bool, false, List, ◌∷◌, ◌++◌, length, take, drop, get_or, refl, sym, ap, ap₂, ◌∙◌, arith, length-drop}
+use Rattle.std.proofs.Math.Nat.{mod-eq_of_lt}
+use Rattle.std.proofs.Math.Pow.{pow_mono}
 use Rattle.std.proofs.Math.Seq.{take-add}
 use Rattle.std.proofs.lemmas.List.{ext_get_or, get_or-map, length-map, length-reverse, length-take, length-take-le, drop_more, map-append, take_all}
 use borrow.Rule.Slice.PartMut.{put_mid}
 use Rattle.mask_eval.proofs.Lists.{part_front}
-use Rattle.mask_bits.specs.Reading.{bit, low, number}
+use Rattle.mask_bits.specs.Reading.{bit, low, lowest, number}
 use Rattle.mask_bits.specs.Lanes.{lane}
 use Rattle.mask_bits.specs.Square.{IsTransposed}
 use Rattle.mask_bits.proofs.Bytes.{length-low, low-append}
-use Rattle.mask_bits.proofs.Numbers.{bit-number}
-use Rattle.mask_tape.proofs.Windows.{number-low_cons, eight_bytes}
+use Rattle.mask_bits.proofs.Numbers.{bit-number, number-append, number-lowest, number-lt, length-lowest}
 use Rattle.mask_modes.specs.Steps.{block_at}
 use Rattle.mask_modes.proofs.Blocks.{length-block_at}
 use Rattle.mask_counter.specs.declared.words.BitOrder.{BitOrder}
@@ -23,6 +24,18 @@ length-ordered HighFirst b bytes l = length-reverse (block_at b bytes l) ∙ len
 pub reading_is : (order : BitOrder) (bytes : List ℕ) → reading order bytes ≡ low (ordered order bytes)
 reading_is LowFirst bytes = refl
 reading_is HighFirst bytes = refl
+
+-- the number of one byte more, at the low end
+number-low_cons : (byte : ℕ) (bytes : List ℕ) → byte < 256 → number (low (byte ∷ bytes)) ≡ number (low bytes) * 256 + byte
+number-low_cons byte bytes small =
+    let first : byte % 2 ^ 8 ≡ byte = mod-eq_of_lt small in
+    number-append (lowest 8 byte) (low bytes) ∙ rw (number-lowest 8 byte, length-lowest 8 byte, first) (omega arith)
+
+-- a number of at most eight bytes fits in 64 bits
+eight_bytes : (bytes : List ℕ) → length bytes ≤ 8 → number (low bytes) < 2 ^ 64
+eight_bytes bytes few =
+    let bound : number (low bytes) < 2 ^ (8 * length bytes) = rw (length-low bytes) at (number-lt (low bytes)) in
+    let top : 2 ^ (8 * length bytes) ≤ 2 ^ 64 = pow_mono {i = 8 * length bytes} {j = 64} (omega arith) in omega arith
 
 -- one byte more below the others
 pub next_byte : (xs : List ℕ) (at k byte : ℕ) → at < length xs → byte ≡ get_or xs at 0 → byte < 256 → k ≤ 7 →
