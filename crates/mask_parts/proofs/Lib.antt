@@ -1,3 +1,4 @@
+pub mod Adding
 pub mod Concluding
 pub mod Fencing
 pub mod Growing
@@ -11,3 +12,7 @@ pub mod PartLaying
 pub mod PartTidiness
 pub mod Solving
 pub mod Substituting
+pub mod WordExamples
+pub mod WordNumbers
+pub mod WordParts
+pub mod Xoring

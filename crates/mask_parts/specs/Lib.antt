@@ -4,3 +4,4 @@ pub mod Fences
 pub mod PresentSbox
 pub mod Tables
 pub mod Tidiness
+pub mod Words32
