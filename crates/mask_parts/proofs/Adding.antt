@@ -106,6 +106,13 @@ module _ (vs : List Bool) (n : ℕ) (zs : List ℕ) where
   abbrev made : ℕ → Bool
   made k = value_at vs (n + k)
 
+  -- the number of the k bits from bit i on
+  abbrev x_number : ℕ → ℕ → ℕ
+  x_number i k = number (map x_bit (range_with_len i k))
+
+  abbrev y_number : ℕ → ℕ → ℕ
+  y_number i k = number (map y_bit (range_with_len i k))
+
   at : (j k : ℕ) → n + k ≡ j → made k ≡ value_at vs j
   at j k same = ap (value_at vs) same
 
@@ -131,8 +138,7 @@ module _ (vs : List Bool) (n : ℕ) (zs : List ℕ) where
 
   -- the sum of the bits from bit i on and of the carry into it
   ripple-solved : (k i c : ℕ) → Solves vs (n + (c + 1)) (gates_from n zs (c + 1) (ripple k i c)) →
-      number (map made (ripple_sums k c))
-      ≡ (number (map x_bit (range_with_len i (suc k))) + number (map y_bit (range_with_len i (suc k))) + digit (made c)) % 2 ^ suc k
+      number (map made (ripple_sums k c)) ≡ (x_number i (suc k) + y_number i (suc k) + digit (made c)) % 2 ^ suc k
   ripple-solved zero i c s =
       let p : made (c + 1) ≡ xor (y_bit i) (made c) = s.0 in
       let t : made (c + 2) ≡ sum_bit (x_bit i) (y_bit i) (made c) = at _ (c + 2) (omega arith) ∙ s.1.0 ∙ ap (xor (x_bit i)) p in
@@ -147,16 +153,17 @@ module _ (vs : List Bool) (n : ℕ) (zs : List ℕ) where
 
   -- the sum of all bits, of which the first is a half adder's
   sum-solved : Solves vs n (gates_from n zs 0 (half_adder ++ ripple 30 1 2)) →
-      number (map made (0 ∷ ripple_sums 30 2)) ≡ (number (map x_bit (range_with_len 0 32)) + number (map y_bit (range_with_len 0 32))) % 2 ^ 32
+      number (map made (0 ∷ ripple_sums 30 2)) ≡ (x_number 0 32 + y_number 0 32) % 2 ^ 32
   sum-solved s =
       let t : made 0 ≡ xor (x_bit 0) (y_bit 0) = at n 0 (add-zero n) ∙ s.0 in
       let fresh : n + (0 + 1) ≡ suc n = omega arith in
       let k : made 2 ≡ (x_bit 0 && y_bit 0) = at _ 2 (omega arith) ∙ s.1.1.0 ∙ ap (λ v. x_bit 0 && value_at vs v) fresh ∙ ap (λ b. x_bit 0 && b) s.1.0 in
       let next : suc (suc (suc n)) ≡ n + (2 + 1) = omega arith in
       let later = ripple-solved 30 1 2 (subst (λ j. Solves vs j (gates_from n zs 3 (ripple 30 1 2))) next s.1.1.1) in
-      ap₂ (λ b m. digit b + 2 * m) t (later ∙ ap (λ b. (number (map x_bit (range_with_len 1 31)) + number (map y_bit (range_with_len 1 31)) + digit b) % 2 ^ 31) k)
-      ∙ with_low _ _ _ _ 0 _ _ (2 ^ 31) (digit-lt (xor (x_bit 0) (y_bit 0))) (pow_pos 31) (half_sum (x_bit 0) (y_bit 0))
-      ∙ ap (λ m. m % 2 ^ 32) (add-zero (number (map x_bit (range_with_len 0 32)) + number (map y_bit (range_with_len 0 32))))
+      ap₂ (λ b m. digit b + 2 * m) t (later ∙ ap (λ b. (x_number 1 31 + y_number 1 31 + digit b) % 2 ^ 31) k)
+      ∙ with_low (digit (xor (x_bit 0) (y_bit 0))) (digit (x_bit 0 && y_bit 0)) (digit (x_bit 0)) (digit (y_bit 0)) 0 (x_number 1 31) (y_number 1 31) (2 ^ 31)
+      (digit-lt (xor (x_bit 0) (y_bit 0))) (pow_pos 31) (half_sum (x_bit 0) (y_bit 0))
+      ∙ ap (λ m. m % 2 ^ 32) (add-zero (x_number 0 32 + y_number 0 32))
 
 -- the results are those of the ripple
 sum32_results-bits : (vs : List Bool) (n : ℕ) → map (value_at vs) (sum32_results n) ≡ map (made vs n []) (0 ∷ ripple_sums 30 2)

@@ -13,6 +13,7 @@ pub mod PartTidiness
 pub mod Solving
 pub mod Substituting
 pub mod WordExamples
+pub mod WordFitting
 pub mod WordNumbers
 pub mod WordParts
 pub mod Xoring

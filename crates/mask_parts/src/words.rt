@@ -122,7 +122,8 @@ fn full_adder(i: u32, c: u32) -> [Step; 5]
     ]
 }
 
-// Bit 0 without a carry into it, the full adders of bits 1 to 30, and bit 31 without a carry out of it.
+// Bit 0 without a carry into it, the full adders of bits 1 to 30, and bit 31 without a carry out of it. Value 6 * i - 4 is
+// the carry into bit i.
 fn sum_steps() -> [Step; 154]
     ensures { result ≡ sum32_steps }
 {
