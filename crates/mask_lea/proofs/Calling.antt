@@ -5,9 +5,10 @@ use Rattle.mask_circuit.specs.Netlist.{Netlist, value_count}
 use Rattle.mask_parts.specs.Drafts.{Grows, IsWithinLimits}
 use Rattle.mask_parts.specs.Words32.{with_xor32, xor32_results}
 use Rattle.mask_parts.proofs.Growing.{value_count-Grows}
+use Rattle.mask_parts.proofs.WordFitting.{value_count-with_xor32}
 use Rattle.mask_lea.specs.Lea.{Schedule, delta, in_turn}
 use Rattle.mask_lea.specs.Rounds.{Stage, stage, word, constant_word, AreWordsOf, with_word_updated, with_key_updated, round_words, with_block_mixed, with_round}
-use Rattle.mask_lea.proofs.Lengthening.{Lengthens, Lengthens-in_turn, Lengthens-key_updated, Lengthens-block_mixed, count-with_xor32}
+use Rattle.mask_lea.proofs.Lengthening.{Lengthens, Lengthens-in_turn, Lengthens-key_updated, Lengthens-block_mixed}
 use Rattle.mask_lea.proofs.Mixing.{IsWord-rotated, IsWord-constant}
 use Rattle.mask_lea.proofs.Passing.{Formed, IsReady, IsWord}
 use Rattle.mask_lea.proofs.Running.{IsShape, IsFine, Runs-key_updated, All-round_words}
@@ -26,7 +27,7 @@ AreOf-Grows c d us grows known =
 
 pub AreOf-xor32 : (c : Netlist) (x y : List ℕ) → AreOf (with_xor32 c x y) (xor32_results (value_count c))
 unfolding xor32_results
-AreOf-xor32 c x y = All-range (λ u. u < value_count (with_xor32 c x y)) (value_count c) 32 (λ u low high. let count = count-with_xor32 c x y in omega arith)
+AreOf-xor32 c x y = All-range (λ u. u < value_count (with_xor32 c x y)) (value_count c) 32 (λ u low high. let count = value_count-with_xor32 c x y in omega arith)
 
 -- a word of a list of words
 pub AreOf-word : (c : Netlist) (ws : List (List ℕ)) (k : ℕ) → k < length ws → AreWordsOf c ws → AreOf c (word ws k)

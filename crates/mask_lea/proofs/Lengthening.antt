@@ -1,21 +1,12 @@
 -- What the parts do to any draft: it grows, by so many values.
-use Rattle.std.proofs.Common.{◌≡◌, ℕ, zero, suc, ◌+◌, ◌-◌, ◌≤◌, List, length, ap, ◌∙◌, arith}
+use Rattle.std.proofs.Common.{◌≡◌, ℕ, zero, suc, ◌+◌, ◌-◌, ◌≤◌, List, length, ◌∙◌, arith}
 use Rattle.mask_circuit.specs.Netlist.{Netlist, value_count}
 use Rattle.mask_parts.specs.Drafts.{Grows}
 use Rattle.mask_parts.specs.Words32.{xor32_gates, with_xor32, sum32_gates, with_sum32}
-use Rattle.mask_parts.proofs.Adding.{length-sum32_gates}
-use Rattle.mask_parts.proofs.Growing.{value_count-with_gates, Grows-refl, Grows-trans, Grows-with_gates}
-use Rattle.mask_parts.proofs.Xoring.{length-xor32_gates}
+use Rattle.mask_parts.proofs.Growing.{Grows-refl, Grows-trans, Grows-with_gates}
+use Rattle.mask_parts.proofs.WordFitting.{value_count-with_xor32, value_count-with_sum32}
 use Rattle.mask_lea.specs.Lea.{Schedule, in_turn}
 use Rattle.mask_lea.specs.Rounds.{Stage, with_word_updated, with_key_updated, with_mixed, with_block_mixed, with_round, with_rounds}
-
-pub count-with_xor32 : (c : Netlist) (x y : List ℕ) → value_count (with_xor32 c x y) ≡ value_count c + 32
-unfolding with_xor32
-count-with_xor32 c x y = value_count-with_gates c (xor32_gates (value_count c) x y) ∙ ap (λ k. value_count c + k) (length-xor32_gates (value_count c) x y)
-
-pub count-with_sum32 : (c : Netlist) (x y : List ℕ) → value_count (with_sum32 c x y) ≡ value_count c + 185
-unfolding with_sum32
-count-with_sum32 c x y = value_count-with_gates c (sum32_gates (value_count c) x y) ∙ ap (λ k. value_count c + k) (length-sum32_gates (value_count c) x y)
 
 pub Grows-xor32 : (c : Netlist) (x y : List ℕ) → Grows c (with_xor32 c x y)
 unfolding with_xor32
@@ -34,9 +25,9 @@ Grows-mixed c x k y l = Grows-trans _ _ _ (Grows-xor32 c x k) (Grows-trans _ _ _
 pub count-with_mixed : (c : Netlist) (x k y l : List ℕ) → value_count (with_mixed c x k y l) ≡ value_count c + 249
 unfolding with_mixed
 count-with_mixed c x k y l =
-    let one = count-with_xor32 c x k in
-    let two = count-with_xor32 (with_xor32 c x k) y l in
-    count-with_sum32 (with_xor32 (with_xor32 c x k) y l) _ _ ∙ omega arith
+    let one = value_count-with_xor32 c x k in
+    let two = value_count-with_xor32 (with_xor32 c x k) y l in
+    value_count-with_sum32 (with_xor32 (with_xor32 c x k) y l) _ _ ∙ omega arith
 
 -- STAGES
 

@@ -1,16 +1,13 @@
 -- The parts on words: what they keep, and what they compute.
-use Rattle.std.proofs.Common.{◌≡◌, ℕ, zero, suc, ◌+◌, ◌-◌, Bool, true, false, List, ◌∷◌, ◌++◌, length, take, drop, map, replicate, All, refl, ap, ◌∙◌, arith, length-append, if◌then◌else◌}
+use Rattle.std.proofs.Common.{◌≡◌, ℕ, zero, suc, ◌+◌, true, List, ◌∷◌, ◌++◌, length, map, replicate, All, refl, ap, ◌∙◌, arith, length-append}
 use Rattle.std.specs.List.{range_with_len}
-use Rattle.std.proofs.lemmas.List.{length-map, length-take-le, length-drop}
-use Rattle.std.proofs.lemmas.List.FromFn.{length-range_with_len}
-use Rattle.std.proofs.lemmas.List.Elements.{All-append, All-take, All-drop, All-map}
-use Rattle.mask_bits.specs.Reading.{lowest}
-use Rattle.mask_bits.proofs.Numbers.{length-lowest}
+use Rattle.std.proofs.lemmas.List.Elements.{All-append}
 use Rattle.mask_circuit.specs.Netlist.{Netlist, value_count}
 use Rattle.mask_circuit.specs.Value.{value_at}
 use Rattle.mask_parts.specs.Tables.{part_gates, part_usable}
 use Rattle.mask_parts.specs.Words32.{xor32_steps, with_xor32, xor32_results, sum32_steps, with_sum32, sum_place, sum32_results, rotated32, constant32}
 use Rattle.mask_parts.proofs.Adding.{is_part-sum32, with_sum32-with_part}
+use Rattle.mask_parts.proofs.WordFitting.{length-xor32_results, length-sum32_results, length-rotated32, All-rotated32, length-constant32, All-constant32}
 use Rattle.mask_parts.proofs.Xoring.{is_part-xor32, with_xor32-with_part}
 use Rattle.mask_lea.proofs.Counting.{Counts}
 use Rattle.mask_lea.proofs.Passing.{IsSound, IsReady, IsWord, Passes, Passes-trans, IsWord-later, Passes-part, All-ready-part}
@@ -67,43 +64,26 @@ module _ (T : Type 0) (c : Netlist) (x y : List ℕ) (sound : IsSound T c) (one 
 
   pub word-xor32 : IsWord T (with_xor32 c x y) (xor32_results n)
   word-xor32 = record {
-    long = unfold xor32_results in length-range_with_len n 32;
+    long = length-xor32_results n;
     ready = rw (with_xor32-with_part c x y, xor32_results-places n)
         (All-ready-part T c (x ++ y) xor32_steps sound both (rw both_long is_part-xor32) (range_with_len 0 32) usable-xor32);
   }
 
   pub word-sum32 : IsWord T (with_sum32 c x y) (sum32_results n)
   word-sum32 = record {
-    long = unfold sum32_results in refl;
+    long = length-sum32_results n;
     ready = rw (with_sum32-with_part c x y, sum32_results-places n)
         (All-ready-part T c (x ++ y) sum32_steps sound both (rw both_long is_part-sum32) (map sum_place (range_with_len 0 32)) usable-sum32);
   }
 
 -- ROTATIONS AND CONSTANTS
 
-pub length-rotated32 : (k : ℕ) (w : List ℕ) → length w ≡ 32 → length (rotated32 k w) ≡ 32
-unfolding rotated32
-length-rotated32 k w long =
-    let low = length-take-le (32 - k) w (omega arith) in
-    let high = length-drop (32 - k) w in
-    length-append (drop (32 - k) w) (take (32 - k) w) ∙ omega arith
-
 pub IsWord-rotated : (T : Type 0) (c : Netlist) (k : ℕ) (w : List ℕ) → IsWord T c w → IsWord T c (rotated32 k w)
-IsWord-rotated T c k w is = record {
-  long = length-rotated32 k w is.long;
-  ready = unfold rotated32 in All-append (IsReady T c) (drop (32 - k) w) (take (32 - k) w) (All-drop (IsReady T c) (32 - k) w is.ready) (All-take (IsReady T c) (32 - k) w is.ready);
-}
-
-IsReady-if : (T : Type 0) (c : Netlist) (nought one : ℕ) (b : Bool) → IsReady T c nought → IsReady T c one → IsReady T c (if b then one else nought)
-IsReady-if T c nought one true no_bit yes_bit = yes_bit
-IsReady-if T c nought one false no_bit yes_bit = no_bit
+IsWord-rotated T c k w is = record { long = length-rotated32 k w ∙ is.long; ready = All-rotated32 (IsReady T c) k w is.ready }
 
 pub IsWord-constant : (T : Type 0) (c : Netlist) (nought one a : ℕ) → IsReady T c nought → IsReady T c one → IsWord T c (constant32 nought one a)
-unfolding constant32
-IsWord-constant T c nought one a no_bit yes_bit = record {
-  long = length-map (lowest 32 a) (λ (b : Bool). if b then one else nought) ∙ length-lowest 32 a;
-  ready = All-map (IsReady T c) (λ b. if b then one else nought) (lowest 32 a) (λ k d inside. IsReady-if T c nought one _ no_bit yes_bit);
-}
+IsWord-constant T c nought one a no_bit yes_bit =
+    record { long = length-constant32 nought one a; ready = All-constant32 (IsReady T c) nought one a no_bit yes_bit }
 
 -- MIXED WORDS
 

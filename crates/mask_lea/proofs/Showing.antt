@@ -12,12 +12,12 @@ use Rattle.mask_parts.specs.Drafts.{with_gates, with_outputs, Grows}
 use Rattle.mask_parts.specs.Words32.{with_xor32, xor32_results, with_sum32, sum32_results, rotated32, rol32, constant32}
 use Rattle.mask_parts.proofs.Adding.{sum32-solved}
 use Rattle.mask_parts.proofs.Solving.{Solves, Solves-left, Solves-right}
+use Rattle.mask_parts.proofs.WordFitting.{value_count-with_xor32, length-xor32_results, length-sum32_results, length-rotated32, length-constant32}
 use Rattle.mask_parts.proofs.WordNumbers.{number-rotated32, number-constant32}
 use Rattle.mask_parts.proofs.Xoring.{xor32-solved}
 use Rattle.mask_lea.specs.Lea.{Schedule, State, deltas, delta, place, in_turn, word_updated, key_updated, round_key, mixed, block_mixed, round, lea_words}
 use Rattle.mask_lea.specs.Rounds.{Stage, word, constant_word, with_word_updated, with_key_updated, round_words, with_mixed, mixed_results, with_block_mixed, with_round, with_rounds}
-use Rattle.mask_lea.proofs.Lengthening.{Lengthens, count-with_xor32, count-with_mixed, Grows-sum32, Grows-xor32, Grows-mixed, Lengthens-word_updated, Lengthens-block_mixed, Lengthens-round}
-use Rattle.mask_lea.proofs.Mixing.{length-rotated32}
+use Rattle.mask_lea.proofs.Lengthening.{Lengthens, count-with_mixed, Grows-sum32, Grows-xor32, Grows-mixed, Lengthens-word_updated, Lengthens-block_mixed, Lengthens-round}
 use Rattle.mask_lea.proofs.Passing.{IsWord}
 use Rattle.mask_lea.proofs.Running.{IsShape, IsFine, slice_index-lt, place-lt, word-at, round_words-long, All-round_words, Runs-word_updated, Runs-key_updated, Runs-round}
 
@@ -48,21 +48,9 @@ module _ (vs : List Bool) (c : Netlist) (x y : List ℕ) (x_long : length x ≡ 
   unfolding with_sum32
   shown-sum32 solved = sum32-solved vs (value_count c) x y x_long y_long (Solved-with_gates vs c _ solved).1
 
-length-xor32_results : (n : ℕ) → length (xor32_results n) ≡ 32
-unfolding xor32_results
-length-xor32_results n = refl
-
-length-sum32_results : (n : ℕ) → length (sum32_results n) ≡ 32
-unfolding sum32_results
-length-sum32_results n = refl
-
-length-constant32 : (nought one a : ℕ) → length (constant32 nought one a) ≡ 32
-unfolding constant32
-length-constant32 nought one a = refl
-
 length-constant_word : (r : Schedule) (i j nought one : ℕ) → length (constant_word r i j nought one) ≡ 32
 unfolding constant_word
-length-constant_word r i j nought one = length-rotated32 ((i + j) % 32) (constant32 nought one (delta r i)) (length-constant32 nought one (delta r i))
+length-constant_word r i j nought one = length-rotated32 ((i + j) % 32) (constant32 nought one (delta r i)) ∙ length-constant32 nought one (delta r i)
 
 length-mixed_results : (n : ℕ) → length (mixed_results n) ≡ 32
 unfolding mixed_results
@@ -75,8 +63,8 @@ shown-mixed vs c x k y l x_long k_long y_long l_long solved =
     let n : ℕ = value_count c in
     let left : Netlist = with_xor32 c x k in
     let right : Netlist = with_xor32 left y l in
-    let left_count : value_count left ≡ n + 32 = count-with_xor32 c x k in
-    let count : value_count right ≡ n + 64 = count-with_xor32 left y l ∙ omega arith in
+    let left_count : value_count left ≡ n + 32 = value_count-with_xor32 c x k in
+    let count : value_count right ≡ n + 64 = value_count-with_xor32 left y l ∙ omega arith in
     let solved_right : Solved vs right = Solved-Grows vs right _ (Grows-sum32 right _ _) solved in
     let solved_left : Solved vs left = Solved-Grows vs left right (Grows-xor32 left y l) solved_right in
     let a : shown vs (xor32_results n) ≡ bit_xor (shown vs x) (shown vs k) = shown-xor32 vs c x k x_long k_long solved_left in

@@ -50,6 +50,10 @@ key_updated r i key = in_turn (word_updated r i) (length r.turns) key
 unfoldable pub round_key : Schedule → ℕ → List ℕ → List ℕ
 round_key r i key = map (λ j. slice_index key (place r i j)) r.taken
 
+-- a word rotated right by k places
+abbrev pub ror32 : ℕ → ℕ → ℕ
+ror32 k a = rol32 (32 - k) a
+
 -- two words, each xored with one of the round key, added up
 unfoldable pub mixed : ℕ → ℕ → ℕ → ℕ → ℕ
 mixed x k y l = (bit_xor x k + bit_xor y l) % 2 ^ 32
@@ -60,8 +64,8 @@ block_mixed ks xs =
     let k = slice_index ks in
     let x = slice_index xs in
     rol32 9 (mixed (x 0) (k 0) (x 1) (k 1))
-    ∷ (rol32 (32 - 5) (mixed (x 1) (k 2) (x 2) (k 3))
-    ∷ (rol32 (32 - 3) (mixed (x 2) (k 4) (x 3) (k 5))
+    ∷ (ror32 5 (mixed (x 1) (k 2) (x 2) (k 3))
+    ∷ (ror32 3 (mixed (x 2) (k 4) (x 3) (k 5))
     ∷ (x 0 ∷ [])))
 
 -- the key and the block

@@ -3,9 +3,10 @@ use Rattle.mask_circuit.specs.Netlist.{value_count}
 use Rattle.mask_parts.specs.Words32.{with_xor32, xor32_results, sum32_results}
 use Rattle.mask_parts.proofs.Growing.{Grows-refl, Grows-trans}
 use Rattle.mask_parts.proofs.Laying.{Lays-exit, Lays-last}
+use Rattle.mask_parts.proofs.WordFitting.{value_count-with_xor32}
 use Rattle.mask_lea.specs.Rounds.{with_mixed, mixed_results}
 use Rattle.mask_lea.proofs.Calling.{AreOf-Grows, AreOf-xor32}
-use Rattle.mask_lea.proofs.Lengthening.{count-with_xor32, Grows-xor32, Grows-sum32}
+use Rattle.mask_lea.proofs.Lengthening.{Grows-xor32, Grows-sum32}
 use Rattle.mask_lea.proofs.round.mixed.Goals as goal
 
 
@@ -46,7 +47,7 @@ returns c =
     let b = c.args.b.now in
     let left = with_xor32 b c.args.x.now c.args.k.now in
     let right = with_xor32 left c.args.y.now c.args.l.now in
-    let count : value_count left ≡ value_count b + 32 = count-with_xor32 b c.args.x.now c.args.k.now in
-    let count' : value_count right ≡ value_count b + 64 = count-with_xor32 left c.args.y.now c.args.l.now ∙ omega arith in
+    let count : value_count left ≡ value_count b + 32 = value_count-with_xor32 b c.args.x.now c.args.k.now in
+    let count' : value_count right ≡ value_count b + 64 = value_count-with_xor32 left c.args.y.now c.args.l.now ∙ omega arith in
     Lays-last b right _ _ _ _ _ _ (Grows-trans _ _ _ (Grows-xor32 b _ _) (Grows-xor32 left _ _)) refl (ap sum32_results count')
     (rw (c.in_ok-right.ensures.laid.1, c.in_ok-right.ensures.laid.0, c.in_ok-left.ensures.laid.1, c.in_ok-left.ensures.laid.0, count) at c.add32.ensures.laid)
