@@ -86,11 +86,11 @@ module _ (T : Type 0) (c : Netlist) (xs : List ℕ) (ss : List Step) (sound : Is
   pub IsReady-part : (k : ℕ) → value_at (part_usable ss) k ≡ true → IsReady T (with_part c xs ss) (value_count c + k)
   IsReady-part k usable = record {
     below = (
-      let within = usable-within (part_usable ss) k usable in
-      let adds : value_count (with_part c xs ss) ≡ value_count c + length (part_usable ss) =
-      unfold with_part in value_count-with_gates c (part_gates (value_count c) xs ss) ∙ ap (λ (m : ℕ). value_count c + m) (length-part_gates (value_count c) xs ss) in
-      omega arith
-    );
+        let within = usable-within (part_usable ss) k usable in
+        let adds : value_count (with_part c xs ss) ≡ value_count c + length (part_usable ss) =
+        unfold with_part in value_count-with_gates c (part_gates (value_count c) xs ss) ∙ ap (λ (m : ℕ). value_count c + m) (length-part_gates (value_count c) xs ss) in
+        omega arith
+        );
     free = λ t. (tidied t).1 k usable;
   }
 

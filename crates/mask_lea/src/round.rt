@@ -12,13 +12,7 @@ use mask_parts::{add32, rot32, xor32};
 pub(crate) type Word = [u32; 32];
 
 // Two words, each xored with one of the round key, added up.
-fn mixed(
-    b: &mut Builder,
-    x: &Word,
-    k: &Word,
-    y: &Word,
-    l: &Word,
-) -> Result<Word, CircuitError>
+fn mixed(b: &mut Builder, x: &Word, k: &Word, y: &Word, l: &Word) -> Result<Word, CircuitError>
     requires x_known { All (λ u. u < value_count b.old) x.now }
     requires k_known { All (λ u. u < value_count b.old) k.now }
     requires y_known { All (λ u. u < value_count b.old) y.now }

@@ -4,7 +4,7 @@ ghost use Rattle.std.specs.Prelude.{◌≡◌, ℕ, ◌+◌, ◌<◌, ◌≤◌,
 ghost use Rattle.mask_circuit.specs.Netlist.{value_count};
 ghost use Rattle.mask_parts.specs.Drafts.{Lays};
 ghost use Rattle.mask_lea.specs.Lea.{schedule, delta, place};
-ghost use Rattle.mask_lea.specs.Rounds.{stage, with_word_updated, with_key_updated, round_words, AreWordsOf};
+ghost use Rattle.mask_lea.specs.Rounds.{stage, constant_word, with_word_updated, with_key_updated, round_words, AreWordsOf};
 
 use crate::round::Word;
 use mask_circuit::{Builder, CircuitError};
@@ -64,6 +64,16 @@ fn delta(size: LeaSize, i: usize) -> u32
     deltas[i % words(size)]
 }
 
+// The constant of word j in round i.
+fn constant_word(size: LeaSize, zero: u32, one: u32, i: usize, j: usize) -> Word
+    requires few { i < 32 }
+    requires next { j < 8 }
+    ensures { result ≡ constant_word (schedule size) i j zero one }
+{
+    let turn = (i + j) % 32;
+    rot32(&constant32(zero, one, delta(size, i)), turn as u32)
+}
+
 // Where in the key word j of round i is.
 fn place(size: LeaSize, i: usize, j: usize) -> usize
     requires few { i < 32 }
@@ -93,7 +103,7 @@ fn update_word(
     ensures updated { OnOk result (key.new ≡ (with_word_updated (schedule size) i j (stage b.old zero one key.old [])).key) }
 {
     let at = place(size, i, j);
-    let constant = rot32(&constant32(zero, one, delta(size, i)), ((i + j) % 32) as u32);
+    let constant = constant_word(size, zero, one, i, j);
     let sum = add32(b, &key[at], &constant)?;
     key[at] = rot32(&sum, turns(size)[j]);
     Ok(())

@@ -9,7 +9,6 @@ use Rattle.mask_lea.proofs.Calling.{AreOf-Grows, AreOf-xor32}
 use Rattle.mask_lea.proofs.Lengthening.{Grows-xor32, Grows-sum32}
 use Rattle.mask_lea.proofs.round.mixed.Goals as goal
 
-
 pub returns-in_err-left : goal.returns-in_err-left
 unfolding with_mixed
 returns-in_err-left c =

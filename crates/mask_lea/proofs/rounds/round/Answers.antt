@@ -34,7 +34,7 @@ round_key-round_key-requires c =
     c.requires.width c.requires.key_known c.told-block c.requires.block_known in
     record {
       width = rw c.in_ok-update.ensures.updated (updated-long (schedule c.args.size) (IsShape-schedule c.args.size) c.args.i c.args.b.now c.args.zero c.args.one c.args.key.now c.args.block.now
-    c.values-values.ensures.circuit.formed.gates known);
+          c.values-values.ensures.circuit.formed.gates known);
       few = c.requires.few;
     }
 
@@ -45,9 +45,9 @@ mix_block-requires c =
     record {
       key_known = rw (c.in_ok-update.ensures.laid.1, c.round_key-round_key.ensures, c.in_ok-update.ensures.updated)
           (updated-words (schedule c.args.size) (IsShape-schedule c.args.size) c.args.i c.args.b.now c.args.zero c.args.one c.args.key.now c.args.block.now
-    c.values-values.ensures.circuit.formed.gates known);
+          c.values-values.ensures.circuit.formed.gates known);
       block_known = rw c.in_ok-update.ensures.laid.1 (updated-block (schedule c.args.size) (IsShape-schedule c.args.size) c.args.i c.args.b.now c.args.zero c.args.one c.args.key.now c.args.block.now
-    c.values-values.ensures.circuit.formed.gates known);
+          c.values-values.ensures.circuit.formed.gates known);
     }
 
 pub returns-clause-laid : goal.returns-clause-laid

@@ -1,10 +1,9 @@
-use Rattle.std.proofs.Common.{◌≡◌, ℕ, ◌+◌, ◌%◌, ◌<◌, List, refl, arith}
+use Rattle.std.proofs.Common.{◌≡◌, ℕ, ◌<◌, refl, arith}
 use Rattle.mask_tasks.specs.declared.sizes.LeaSize.{LeaSize}
-use Rattle.mask_parts.specs.Words32.{rotated32, constant32}
 use Rattle.mask_parts.proofs.Growing.{Grows-refl}
 use Rattle.mask_parts.proofs.Laying.{Lays-exit}
-use Rattle.mask_lea.specs.Lea.{schedule, delta, place}
-use Rattle.mask_lea.specs.Rounds.{stage, constant_word, with_word_updated}
+use Rattle.mask_lea.specs.Lea.{schedule, place}
+use Rattle.mask_lea.specs.Rounds.{stage, with_word_updated}
 use Rattle.mask_lea.proofs.Calling.{AreOf-word, AreOf-constant}
 use Rattle.mask_lea.proofs.Running.{IsShape-schedule, place-lt}
 use Rattle.mask_lea.proofs.schedule.update_word.Goals as goal
@@ -15,12 +14,6 @@ inside size i j at is = rw is (place-lt ⊥ (schedule size) (IsShape-schedule si
 
 low : (size : LeaSize) (i j at : ℕ) → at ≡ place (schedule size) i j → at < 8
 low size i j at is = let a = inside size i j at is in let b = (IsShape-schedule size).few in omega arith
-
--- the constant as the code makes it
-constant_is : (size : LeaSize) (i j nought one d : ℕ) (bits word : List ℕ) → word ≡ rotated32 ((i + j) % 32) bits → bits ≡ constant32 nought one d → d ≡ delta (schedule size) i
-    → word ≡ constant_word (schedule size) i j nought one
-unfolding constant_word
-constant_is size i j nought one d bits word word_is bits_are d_is = rw (word_is, bits_are, d_is) refl
 
 pub offset_bounds-key-at : goal.offset_bounds-key-at
 offset_bounds-key-at c = let a = low c.args.size c.args.i c.args.j c.place-at.result c.place-at.ensures in omega arith
@@ -38,23 +31,20 @@ pub add32-requires : goal.add32-requires
 add32-requires c =
     let r = schedule c.args.size in
     let b = c.args.b.now in
-    let is = constant_is c.args.size c.args.i c.args.j c.args.zero c.args.one _ _ _ c.rot32-constant.ensures.rotated c.constant32.ensures.bits c.delta.ensures in
     record {
       x_known = AreOf-word b c.args.key.now c.place-at.result (rw c.requires.width (inside c.args.size c.args.i c.args.j c.place-at.result c.place-at.ensures)) c.requires.key_known;
-      y_known = rw is (AreOf-constant r c.args.i c.args.j b c.args.zero c.args.one c.requires.zero_known c.requires.one_known);
+      y_known = rw c.constant_word-constant.ensures (AreOf-constant r c.args.i c.args.j b c.args.zero c.args.one c.requires.zero_known c.requires.one_known);
     }
 
 pub returns-in_err-sum-clause-laid : goal.returns-in_err-sum-clause-laid
 unfolding with_word_updated stage
 returns-in_err-sum-clause-laid c =
-    let is = constant_is c.args.size c.args.i c.args.j c.args.zero c.args.one _ _ _ c.rot32-constant.ensures.rotated c.constant32.ensures.bits c.delta.ensures in
-    Lays-exit _ c.args.b.now _ _ _ _ _ _ c.from_residual.ensures.1 (Grows-refl c.args.b.now) (Grows-refl _) (rw (is, c.place-at.ensures) at c.in_err-sum.ensures.laid)
+    Lays-exit _ c.args.b.now _ _ _ _ _ _ c.from_residual.ensures.1 (Grows-refl c.args.b.now) (Grows-refl _) (rw (c.constant_word-constant.ensures, c.place-at.ensures) at c.in_err-sum.ensures.laid)
 
 pub returns-clause-laid : goal.returns-clause-laid
 unfolding with_word_updated stage
 returns-clause-laid c =
-    let is = constant_is c.args.size c.args.i c.args.j c.args.zero c.args.one _ _ _ c.rot32-constant.ensures.rotated c.constant32.ensures.bits c.delta.ensures in
-    let laid = rw (is, c.place-at.ensures) at c.in_ok-sum.ensures.laid in (refl, laid.1, laid.2)
+    let laid = rw (c.constant_word-constant.ensures, c.place-at.ensures) at c.in_ok-sum.ensures.laid in (refl, laid.1, laid.2)
 
 pub returns-clause-updated : goal.returns-clause-updated
 unfolding with_word_updated stage
