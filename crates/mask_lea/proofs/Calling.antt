@@ -6,12 +6,13 @@ use Rattle.mask_parts.specs.Drafts.{Grows, IsWithinLimits}
 use Rattle.mask_parts.specs.Words32.{with_xor32, xor32_results}
 use Rattle.mask_parts.proofs.Growing.{value_count-Grows}
 use Rattle.mask_parts.proofs.WordFitting.{value_count-with_xor32}
-use Rattle.mask_lea.specs.Lea.{Schedule, delta, in_turn}
+use Rattle.mask_tasks.specs.declared.sizes.LeaSize.{LeaSize}
+use Rattle.mask_lea.specs.Lea.{schedule, place, Schedule, delta, in_turn}
 use Rattle.mask_lea.specs.Rounds.{Stage, stage, word, constant_word, AreWordsOf, with_word_updated, with_key_updated, round_words, with_block_mixed, with_round}
 use Rattle.mask_lea.proofs.Lengthening.{Lengthens, Lengthens-in_turn, Lengthens-key_updated, Lengthens-block_mixed}
 use Rattle.mask_lea.proofs.Mixing.{IsWord-rotated, IsWord-constant}
 use Rattle.mask_lea.proofs.Passing.{Formed, IsReady, IsWord}
-use Rattle.mask_lea.proofs.Running.{IsShape, IsFine, Runs-key_updated, All-round_words}
+use Rattle.mask_lea.proofs.Running.{IsShape, IsShape-schedule, place-lt, IsFine, Runs-key_updated, All-round_words}
 use Rattle.mask_lea.proofs.Starting.{All-range}
 
 -- VALUES OF A DRAFT
@@ -127,6 +128,13 @@ pub IsKnown-run : (r : Schedule) (m : ℕ) (f : ℕ → Stage → Stage) → ((i
     → HasRun f (stage b nought one key us) (stage c nought one now vs) i → IsKnown r m c nought one now vs
 IsKnown-run r m f keeps b c nought one key now us vs i formed known has =
     IsKnown-fine r m c nought one now vs (rw has.is (in_turn-fine r m f keeps i (stage b nought one key us) (IsFine-known r m b nought one key us formed known)))
+
+-- the place of a word of a round is one of the key's, of which there are at most eight
+pub place-inside : (size : LeaSize) (i j at : ℕ) → at ≡ place (schedule size) i j → at < (schedule size).words
+place-inside size i j at is = rw is (place-lt ⊥ (schedule size) (IsShape-schedule size) i j)
+
+pub place-low : (size : LeaSize) (i j at : ℕ) → at ≡ place (schedule size) i j → at < 8
+place-low size i j at is = let inside = place-inside size i j at is in let few = (IsShape-schedule size).few in omega arith
 
 -- the constant of a word of a round
 pub AreOf-constant : (r : Schedule) (i j : ℕ) (c : Netlist) (nought one : ℕ) → nought < value_count c → one < value_count c → AreOf c (constant_word r i j nought one)

@@ -1,12 +1,12 @@
 -- The named circuits are strong, of their size, and compute LEA in counter mode.
-use Rattle.std.proofs.Common.{◌≡◌, ℕ, zero, suc, ◌+◌, ◌*◌, ◌^◌, ◌<◌, Bool, cond, List, [], ◌∷◌, ◌++◌, length, map, take, drop, All, refl, sym, ap, ap₂, ◌∙◌, arith, add-one, lit≤, bit_xor}
+use Rattle.std.proofs.Common.{◌≡◌, ℕ, ◌+◌, ◌*◌, ◌<◌, Bool, cond, List, [], ◌∷◌, ◌++◌, length, map, take, drop, All, refl, sym, ap, ◌∙◌, arith, add-one, lit≤, bit_xor}
 use Rattle.std.specs.List.{range_with_len, count_by}
-use Rattle.std.proofs.lemmas.List.{length-map, length-take-le, length-drop, map-append}
+use Rattle.std.proofs.lemmas.List.{length-map, length-take-le, length-drop}
 use Rattle.std.proofs.lemmas.List.Sums.{sum_by-cons}
 use Rattle.std.proofs.lemmas.List.FromFn.{length-range_with_len}
-use Rattle.std.proofs.lemmas.List.Elements.{All-nil, All-head, All-tail}
+use Rattle.std.proofs.lemmas.List.Elements.{All-nil}
 use Rattle.mask_bits.specs.Reading.{number, lowest}
-use Rattle.mask_bits.proofs.Numbers.{number-append, number-lt, lowest-of}
+use Rattle.mask_bits.proofs.Numbers.{lowest-of}
 use Rattle.mask_circuit.specs.declared.gates.Gate.{Gate}
 use Rattle.mask_circuit.specs.declared.gates.Gate.TheVariants.{Zero, One, Ref}
 use Rattle.mask_circuit.specs.Netlist.{Netlist, IsCircuit, IsWellFormed, only_inputs, value_count, product_count, refresh_count, is_product, is_refresh}
@@ -17,79 +17,20 @@ use Rattle.mask_tasks.specs.declared.sizes.LeaSize.TheVariants.{K128, K192, K256
 use Rattle.mask_parts.specs.CipherCircuits.{Size, size_of, IsCipherCircuit}
 use Rattle.mask_parts.specs.Drafts.{with_gates, with_outputs, bits_of, Grows, IsWithinLimits}
 use Rattle.mask_parts.specs.Fences.{with_fence}
-use Rattle.mask_parts.specs.Words32.{with_xor32, xor32_results}
 use Rattle.mask_parts.proofs.Concluding.{IsStrong-tidy_fence, IsCipherCircuit-strong}
 use Rattle.mask_parts.proofs.Fencing.{IsWellFormed-fence, plain-with_fence}
-use Rattle.mask_parts.proofs.Growing.{inputs-with_gates, outputs-with_gates, value_count-with_gates, product_count-with_gates, refresh_count-with_gates, Grows-refl, Grows-trans, Grows-with_gates, Grows-with_outputs}
+use Rattle.mask_parts.proofs.Growing.{inputs-with_gates, outputs-with_gates, value_count-with_gates, product_count-with_gates, refresh_count-with_gates, Grows-trans, Grows-with_gates, Grows-with_outputs}
 use Rattle.mask_parts.proofs.Solving.{Solves-all}
 use Rattle.mask_lea.specs.Lea.{Schedule, schedule, words_of, joined, lea_words, lea}
 use Rattle.mask_lea.specs.NamedLea.{width, words_from, start, with_blocks_xored, encrypted_message, named_of, named_lea, size_lea, lea_of_bits}
 use Rattle.mask_lea.specs.Rounds.{Stage, with_rounds}
-use Rattle.mask_lea.proofs.Joining.{joined-bits, xor-joined}
-use Rattle.mask_lea.proofs.Lengthening.{Lengthens-whole, Grows-xor32}
-use Rattle.mask_lea.proofs.Mixing.{Passes-xor32}
-use Rattle.mask_lea.proofs.Passing.{IsSound, IsReady, IsWord, Passes, Passes-refl, Passes-trans, Passes-as}
-use Rattle.mask_lea.proofs.Running.{IsShape, IsShape-schedule, Runs, All-later, round_values, round_products, Runs-rounds}
-use Rattle.mask_lea.proofs.Showing.{Solved, Solved-Grows, shown, shown-xor32, Shows, shown-rounds}
+use Rattle.mask_lea.proofs.Blocks.{Grows-blocks_xored, Passes-blocks_xored, shown-blocks_xored}
+use Rattle.mask_lea.proofs.Joining.{joined-bits}
+use Rattle.mask_lea.proofs.Lengthening.{Lengthens-whole}
+use Rattle.mask_lea.proofs.Passing.{IsReady, IsWord, Passes, Passes-trans, Passes-as}
+use Rattle.mask_lea.proofs.Running.{IsShape, IsShape-schedule, Runs, round_values, round_products, Runs-rounds}
+use Rattle.mask_lea.proofs.Showing.{Solved, Solved-Grows, shown, Shows, shown-rounds}
 use Rattle.mask_lea.proofs.Starting.{All-range, All-words_from, length-words_from, IsReady-input, IsFine-start, words-inputs}
-
--- BLOCKS XORED
-
-pub Grows-blocks_xored : (c : Netlist) (xs ys : List (List ℕ)) → Grows c (with_blocks_xored c xs ys)
-unfolding with_blocks_xored
-Grows-blocks_xored c [] ys = Grows-refl c
-Grows-blocks_xored c (x ∷ xs) [] = Grows-refl c
-Grows-blocks_xored c (x ∷ xs) (y ∷ ys) = Grows-trans _ _ _ (Grows-xor32 c x y) (Grows-blocks_xored (with_xor32 c x y) xs ys)
-
-pub Passes-blocks_xored : (T : Type 0) (c : Netlist) (xs ys : List (List ℕ)) → length xs ≡ length ys → IsSound T c → All (IsWord T c) xs → All (IsWord T c) ys
-    → Passes T c (with_blocks_xored c xs ys) (length xs * 32) 0
-unfolding with_blocks_xored
-Passes-blocks_xored T c [] ys same sound one two = Passes-refl T c sound
-Passes-blocks_xored T c (x ∷ xs) [] same sound one two = absurd (omega arith)
-Passes-blocks_xored T c (x ∷ xs) (y ∷ ys) same sound one two =
-    let d : Netlist = with_xor32 c x y in
-    let here : Passes T c d 32 0 = Passes-xor32 T c x y sound (All-head (IsWord T c) x xs one) (All-head (IsWord T c) y ys two) in
-    let rest = Passes-blocks_xored T d xs ys (omega arith) here.sound
-    (All-later T c d 32 0 xs here (All-tail (IsWord T c) x xs one)) (All-later T c d 32 0 ys here (All-tail (IsWord T c) y ys two)) in
-    Passes-as T c _ _ _ _ _ (omega arith) refl (Passes-trans T c d _ 32 0 _ 0 here rest)
-
-range-split : (a n k : ℕ) → range_with_len a (n + k) ≡ range_with_len a n ++ range_with_len (a + n) k
-range-split a zero k = let e : a ≡ a + 0 = omega arith in ap₂ (λ (m l : ℕ). range_with_len m l) e (omega arith)
-range-split a (suc n) k =
-    let e : suc n + k ≡ suc (n + k) = omega arith in
-    let at : a + 1 + n ≡ a + suc n = omega arith in
-    rw (e, ← at) (ap (λ (us : List ℕ). a ∷ us) (range-split (a + 1) n k))
-
--- words of 32 values are numbers below 2 ^ 32
-shown-lt : (T : Type 0) (vs : List Bool) (c : Netlist) (w : List ℕ) → IsWord T c w → shown vs w < 2 ^ 32
-shown-lt T vs c w is = rw (length-map w (value_at vs) ∙ is.long) at (number-lt (map (value_at vs) w))
-
--- the values made are the XOR of what the blocks stand for
-pub shown-blocks_xored : (T : Type 0) (vs : List Bool) (c : Netlist) (xs ys : List (List ℕ)) → length xs ≡ length ys → IsSound T c → All (IsWord T c) xs → All (IsWord T c) ys
-    → Solved vs (with_blocks_xored c xs ys)
-    → shown vs (range_with_len (value_count c) (length xs * 32)) ≡ bit_xor (joined (map (shown vs) xs)) (joined (map (shown vs) ys))
-unfolding with_blocks_xored joined
-shown-blocks_xored T vs c [] [] same sound one two solved = refl
-shown-blocks_xored T vs c [] (y ∷ ys) same sound one two solved = absurd (omega arith)
-shown-blocks_xored T vs c (x ∷ xs) [] same sound one two solved = absurd (omega arith)
-shown-blocks_xored T vs c (x ∷ xs) (y ∷ ys) same sound one two solved =
-    let n : ℕ = value_count c in
-    let d : Netlist = with_xor32 c x y in
-    let x_is : IsWord T c x = All-head (IsWord T c) x xs one in
-    let y_is : IsWord T c y = All-head (IsWord T c) y ys two in
-    let here : Passes T c d 32 0 = Passes-xor32 T c x y sound x_is y_is in
-    let first : shown vs (range_with_len n 32) ≡ bit_xor (shown vs x) (shown vs y) =
-    unfold xor32_results in shown-xor32 vs c x y x_is.long y_is.long (Solved-Grows vs d _ (Grows-blocks_xored d xs ys) solved) in
-    let rest = rw here.adds.values at
-    (shown-blocks_xored T vs d xs ys (omega arith) here.sound
-    (All-later T c d 32 0 xs here (All-tail (IsWord T c) x xs one)) (All-later T c d 32 0 ys here (All-tail (IsWord T c) y ys two)) solved) in
-    let more : suc (length xs) * 32 ≡ 32 + length xs * 32 = omega arith in
-    let long : length (map (value_at vs) (range_with_len n 32)) ≡ 32 = length-map (range_with_len n 32) (value_at vs) ∙ length-range_with_len n 32 in
-    ap (λ (k : ℕ). shown vs (range_with_len n k)) more
-    ∙ ap (shown vs) (range-split n 32 (length xs * 32))
-    ∙ ap number (map-append (value_at vs) (range_with_len n 32) (range_with_len (n + 32) (length xs * 32)))
-    ∙ number-append (map (value_at vs) (range_with_len n 32)) (map (value_at vs) (range_with_len (n + 32) (length xs * 32)))
-    ∙ rw (long, first, rest) (sym (xor-joined _ _ _ _ (shown-lt T vs c x x_is) (shown-lt T vs c y y_is)))
 
 -- SIZES
 

@@ -1,3 +1,4 @@
+pub mod Blocks
 pub mod Calling
 pub mod Concluding
 pub mod Counting

@@ -1,14 +1,14 @@
 -- The rounds on values at worked examples, computed.
-use Rattle.std.proofs.Common.{◌≡◌, [], ◌∷◌, length, take, drop, map, replicate, refl}
+use Rattle.std.proofs.Common.{◌≡◌, ◌+◌, ◌*◌, [], ◌∷◌, length, take, drop, map, replicate, refl}
 use Rattle.std.specs.List.{range_with_len}
 use Rattle.mask_circuit.specs.declared.gates.Gate.TheVariants.{Xor, And, Ref, Zero, One}
 use Rattle.mask_circuit.specs.Netlist.{only_inputs}
 use Rattle.mask_tasks.specs.declared.sizes.LeaSize.TheVariants.{K128, K256}
 use Rattle.mask_parts.specs.Drafts.{with_gates}
 use Rattle.mask_parts.specs.Words32.{xor32_steps, xor32_gates, with_xor32, xor32_results, sum32_steps, sum32_gates, with_sum32, sum32_results, rotated32, constant32}
-use Rattle.mask_lea.specs.Lea.{schedule, deltas, delta, place}
+use Rattle.mask_lea.specs.Lea.{schedule, deltas, delta, place, in_turn}
 use Rattle.mask_lea.specs.NamedLea.{words_from, start}
-use Rattle.mask_lea.specs.Rounds.{stage, word, constant_word, with_word_updated, with_mixed, with_block_mixed}
+use Rattle.mask_lea.specs.Rounds.{stage, word, constant_word, with_word_updated, with_key_updated, round_words, with_mixed, mixed_results, with_block_mixed, with_round}
 
 -- round 1 of 128 bits updates words 0 to 3; of 256 bits it goes on where round 0 ended, and round 4 begins at word 0 again
 places : (map (place (schedule K128) 1) (range_with_len 0 4) ≡ 0 ∷ 1 ∷ 2 ∷ 3 ∷ [])
@@ -44,3 +44,9 @@ mixed_gates = (refl, refl, refl)
 last_word : word (with_block_mixed (replicate 6 (range_with_len 0 32)) (stage (only_inputs 128) 0 0 [] (words_from 0 4))).block 3 ≡ range_with_len 0 32
 unfolding with_block_mixed stage words_from
 last_word = refl
+
+-- round 0 of lea-128: four words updated by 185 gates each and three mixed by 249, behind the two constants
+first_round : length (with_round (schedule K128) 0 (start (schedule K128))).draft.gates ≡ 2 + 4 * 185 + 3 * 249
+unfolding with_round with_key_updated in_turn with_word_updated with_block_mixed round_words with_mixed mixed_results start words_from with_xor32 xor32_gates xor32_steps xor32_results
+    with_sum32 sum32_gates sum32_steps sum32_results constant_word rotated32 constant32 delta deltas place with_gates
+first_round = refl

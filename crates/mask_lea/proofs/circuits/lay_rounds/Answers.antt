@@ -1,6 +1,7 @@
 use Rattle.std.proofs.Common.{◌≡◌, ℕ, ◌+◌, List, [], ◌∷◌, Ok, Err, refl, ap, sym, ◌∙◌, subst, arith}
+use Rattle.mask_circuit.specs.declared.gates.Gate.{Gate}
 use Rattle.mask_circuit.specs.declared.gates.Gate.TheVariants.{Zero, One}
-use Rattle.mask_circuit.specs.Netlist.{Netlist, value_count, only_inputs}
+use Rattle.mask_circuit.specs.Netlist.{Netlist, value_count, only_inputs, with_gate}
 use Rattle.mask_parts.specs.Drafts.{with_gates, Grows, IsWithinLimits}
 use Rattle.mask_parts.proofs.Growing.{with_gates-with_gates, value_count-with_gates, Grows-refl, Grows-trans, Grows-with_gates}
 use Rattle.mask_parts.proofs.Laying.{IsWithinLimits-circuit, Lays-from_gate, Lays-exit, Lays-last}
@@ -12,17 +13,30 @@ use Rattle.mask_lea.proofs.Lengthening.{Lengthens-whole}
 use Rattle.mask_lea.proofs.Starting.{IsFine-start}
 use Rattle.mask_lea.proofs.circuits.lay_rounds.Goals as goal
 
+-- a gate more is a list of one
+one_gate : (c : Netlist) (g : Gate) → with_gate c g ≡ with_gates c (g ∷ [])
+unfolding with_gates
+one_gate c g = refl
+
 -- the two constants make the start of the inputs
 start_draft : (r : Schedule) (b : Netlist) → b ≡ only_inputs (width r + 256) → with_gates (with_gates b (Zero ∷ [])) (One ∷ []) ≡ (start r).draft
 unfolding start
 start_draft r b is = rw is (with_gates-with_gates (only_inputs (width r + 256)) (Zero ∷ []) (One ∷ []))
 
-stage_start : (r : Schedule) (b c d : Netlist) (nought one : ℕ) (key counter : List (List ℕ)) → b ≡ only_inputs (width r + 256) → c ≡ with_gates b (Zero ∷ []) → d ≡ with_gates c (One ∷ [])
-    → nought ≡ value_count b → one ≡ value_count c → key ≡ words_from 0 r.words → counter ≡ words_from (width r) 4 → stage d nought one key counter ≡ start r
-stage_start r b c d nought one key counter is first second nought_is one_is key_is counter_is =
-    let zeroth : nought ≡ width r + 256 = nought_is ∙ ap (λ (e : Netlist). value_count e) is ∙ (omega arith) in
-    let next : one ≡ width r + 256 + 1 = one_is ∙ ap (λ (e : Netlist). value_count e) first ∙ value_count-with_gates b (Zero ∷ []) ∙ ap (λ (e : Netlist). value_count e + 1) is ∙ (omega arith) in
-    rw (second ∙ ap (λ (e : Netlist). with_gates e (One ∷ [])) first ∙ start_draft r b is, zeroth, next, key_is, counter_is) (unfold stage start in refl)
+-- so it is with the draft d that was made so
+module _ (r : Schedule) (b c d : Netlist) (nought one : ℕ) (is : b ≡ only_inputs (width r + 256)) (first : (nought ≡ value_count b) × (c ≡ with_gate b Zero)) (second : (one ≡ value_count c) × (d ≡ with_gate c One)) where
+  made : d ≡ with_gates (with_gates b (Zero ∷ [])) (One ∷ [])
+  made = second.1 ∙ one_gate c One ∙ ap (λ (e : Netlist). with_gates e (One ∷ [])) (first.1 ∙ one_gate b Zero)
+
+  stage_start : (key counter : List (List ℕ)) → key ≡ words_from 0 r.words → counter ≡ words_from (width r) 4 → stage d nought one key counter ≡ start r
+  stage_start key counter key_is counter_is =
+      let zeroth : nought ≡ width r + 256 = rw is at first.0 ∙ omega arith in
+      let next : one ≡ width r + 256 + 1 =
+      second.0 ∙ ap (λ (e : Netlist). value_count e) (first.1 ∙ one_gate b Zero) ∙ value_count-with_gates b (Zero ∷ []) ∙ ap (λ (e : Netlist). value_count e + 1) is ∙ omega arith in
+      rw (made ∙ start_draft r b is, zeroth, next, key_is, counter_is) (unfold stage start in refl)
+
+  begun : Grows b d
+  begun = rw made (Grows-trans b (with_gates b (Zero ∷ [])) _ (Grows-with_gates b (Zero ∷ [])) (Grows-with_gates (with_gates b (Zero ∷ [])) (One ∷ [])))
 
 -- the constants grow into the whole
 left : (r : Schedule) (b : Netlist) → b ≡ only_inputs (width r + 256) → Grows (with_gates (with_gates b (Zero ∷ [])) (One ∷ [])) (with_rounds r (start r)).draft
@@ -52,14 +66,8 @@ returns-in_err-one c =
 pub encrypt-requires : goal.encrypt-requires
 encrypt-requires c =
     let r = schedule c.args.size in
-    let b = c.args.b.now in
-    let told = c.in_ok-zero.ensures in
-    let told' = c.in_ok-one.ensures in
-    let first = Lays-from_gate b Zero c.zero.new.self (Ok c.in_ok-zero.zero) (IsWithinLimits-circuit b c.values-values.ensures.circuit) told.made told.full told.same in
-    let within : IsWithinLimits c.zero.new.self = subst IsWithinLimits (sym first.1) first.2 in
-    let second = Lays-from_gate c.zero.new.self One c.one.new.self (Ok c.in_ok-one.one) within told'.made told'.full told'.same in
-    let is = stage_start r b c.zero.new.self c.one.new.self c.in_ok-zero.zero c.in_ok-one.one c.args.key.now c.args.counter.now c.requires.inputs first.1 second.1 first.0 second.0
-    c.requires.first c.requires.second in
+    let is = stage_start (schedule c.args.size) c.args.b.now c.zero.new.self c.one.new.self c.in_ok-zero.zero c.in_ok-one.one c.requires.inputs c.in_ok-zero.ensures.made c.in_ok-one.ensures.made
+    c.args.key.now c.args.counter.now c.requires.first c.requires.second in
     let known = IsKnown-fine r 4 c.one.new.self c.in_ok-zero.zero c.in_ok-one.one c.args.key.now c.args.counter.now (rw is (IsFine-start ⊥ r)) in
     record {
       width = known.width;
@@ -71,15 +79,8 @@ encrypt-requires c =
 
 pub returns : goal.returns
 returns c =
-    let r = schedule c.args.size in
-    let b = c.args.b.now in
-    let told = c.in_ok-zero.ensures in
-    let told' = c.in_ok-one.ensures in
-    let first = Lays-from_gate b Zero c.zero.new.self (Ok c.in_ok-zero.zero) (IsWithinLimits-circuit b c.values-values.ensures.circuit) told.made told.full told.same in
-    let within : IsWithinLimits c.zero.new.self = subst IsWithinLimits (sym first.1) first.2 in
-    let second = Lays-from_gate c.zero.new.self One c.one.new.self (Ok c.in_ok-one.one) within told'.made told'.full told'.same in
-    let is = stage_start r b c.zero.new.self c.one.new.self c.in_ok-zero.zero c.in_ok-one.one c.args.key.now c.args.counter.now c.requires.inputs first.1 second.1 first.0 second.0
-    c.requires.first c.requires.second in
-    Lays-last b c.one.new.self _ _ _ _ _ _
-    (Grows-trans b c.zero.new.self _ (subst (Grows b) (sym first.1) (Grows-with_gates b (Zero ∷ []))) (subst (Grows c.zero.new.self) (sym second.1) (Grows-with_gates c.zero.new.self (One ∷ []))))
+    let is = stage_start (schedule c.args.size) c.args.b.now c.zero.new.self c.one.new.self c.in_ok-zero.zero c.in_ok-one.one c.requires.inputs c.in_ok-zero.ensures.made c.in_ok-one.ensures.made
+    c.args.key.now c.args.counter.now c.requires.first c.requires.second in
+    Lays-last c.args.b.now c.one.new.self _ _ _ _ _ _
+    (begun (schedule c.args.size) c.args.b.now c.zero.new.self c.one.new.self c.in_ok-zero.zero c.in_ok-one.one c.requires.inputs c.in_ok-zero.ensures.made c.in_ok-one.ensures.made)
     refl refl (rw is at c.encrypt.ensures)

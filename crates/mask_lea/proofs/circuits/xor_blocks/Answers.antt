@@ -7,7 +7,7 @@ use Rattle.mask_parts.proofs.Laying.{IsWithinLimits-circuit, IsUnderWay-first, I
 use Rattle.mask_lea.specs.NamedLea.{with_blocks_xored}
 use Rattle.mask_lea.specs.Rounds.{word}
 use Rattle.mask_lea.proofs.Calling.{AreOf-Grows, AreOf-word}
-use Rattle.mask_lea.proofs.Concluding.{Grows-blocks_xored}
+use Rattle.mask_lea.proofs.Blocks.{Grows-blocks_xored}
 use Rattle.mask_lea.proofs.Lengthening.{Grows-xor32}
 use Rattle.mask_lea.proofs.circuits.xor_blocks.Goals as goal
 

@@ -1,15 +1,11 @@
 use Rattle.std.proofs.Common.{◌≡◌, ℕ, ◌+◌, ◌<◌, List, [], ◌∷◌, length, map, take, get_or, refl, ap, sym, ◌∙◌, arith, set}
 use Rattle.std.proofs.lemmas.Grind.{take-set_at}
 use Rattle.std.proofs.lemmas.List.{take_all, take_more, map-append, length-set}
-use Rattle.mask_tasks.specs.declared.sizes.LeaSize.{LeaSize}
 use Rattle.mask_lea.specs.Lea.{schedule, place}
 use Rattle.mask_lea.specs.Rounds.{word, round_words}
-use Rattle.mask_lea.proofs.Running.{IsShape-schedule, place-lt}
+use Rattle.mask_lea.proofs.Calling.{place-inside, place-low}
+use Rattle.mask_lea.proofs.Running.{IsShape-schedule}
 use Rattle.mask_lea.proofs.schedule.round_key.Goals as goal
-
--- the place is one of the key's, of which there are at most eight
-inside : (size : LeaSize) (i j at : ℕ) → at ≡ place (schedule size) i j → at < (schedule size).words
-inside size i j at is = rw is (place-lt ⊥ (schedule size) (IsShape-schedule size) i j)
 
 -- one word more
 more : (f : ℕ → List ℕ) (ks : List ℕ) (ws : List (List ℕ)) (w : List ℕ) (j : ℕ) → j < length ks → j < length ws → take j ws ≡ map f (take j ks) → w ≡ f (get_or ks j 0)
@@ -20,10 +16,10 @@ more f ks ws w j in_ks in_ws so_far is =
 
 pub offset_bounds-key-place : goal.offset_bounds-key-place
 offset_bounds-key-place c =
-    let a = inside c.args.size c.args.i _ c.place.result c.place.ensures in let b = (IsShape-schedule c.args.size).few in omega arith
+    let low = place-low c.args.size c.args.i _ c.place.result c.place.ensures in omega arith
 
 pub bounds-key-place : goal.bounds-key-place
-bounds-key-place c = rw c.requires.width (inside c.args.size c.args.i _ c.place.result c.place.ensures)
+bounds-key-place c = rw c.requires.width (place-inside c.args.size c.args.i _ c.place.result c.place.ensures)
 
 pub loop-j-preserved : goal.loop-j-preserved
 loop-j-preserved c =

@@ -1,38 +1,29 @@
-use Rattle.std.proofs.Common.{◌≡◌, ℕ, ◌<◌, refl, arith}
-use Rattle.mask_tasks.specs.declared.sizes.LeaSize.{LeaSize}
+use Rattle.std.proofs.Common.{refl, arith}
 use Rattle.mask_parts.proofs.Growing.{Grows-refl}
 use Rattle.mask_parts.proofs.Laying.{Lays-exit}
-use Rattle.mask_lea.specs.Lea.{schedule, place}
+use Rattle.mask_lea.specs.Lea.{schedule}
 use Rattle.mask_lea.specs.Rounds.{stage, with_word_updated}
-use Rattle.mask_lea.proofs.Calling.{AreOf-word, AreOf-constant}
-use Rattle.mask_lea.proofs.Running.{IsShape-schedule, place-lt}
+use Rattle.mask_lea.proofs.Calling.{place-inside, place-low, AreOf-word, AreOf-constant}
 use Rattle.mask_lea.proofs.schedule.update_word.Goals as goal
 
--- the place is one of the key's, of which there are at most eight
-inside : (size : LeaSize) (i j at : ℕ) → at ≡ place (schedule size) i j → at < (schedule size).words
-inside size i j at is = rw is (place-lt ⊥ (schedule size) (IsShape-schedule size) i j)
-
-low : (size : LeaSize) (i j at : ℕ) → at ≡ place (schedule size) i j → at < 8
-low size i j at is = let a = inside size i j at is in let b = (IsShape-schedule size).few in omega arith
-
 pub offset_bounds-key-at : goal.offset_bounds-key-at
-offset_bounds-key-at c = let a = low c.args.size c.args.i c.args.j c.place-at.result c.place-at.ensures in omega arith
+offset_bounds-key-at c = let a = place-low c.args.size c.args.i c.args.j c.place-at.result c.place-at.ensures in omega arith
 
 pub bounds-key-at : goal.bounds-key-at
-bounds-key-at c = rw c.requires.width (inside c.args.size c.args.i c.args.j c.place-at.result c.place-at.ensures)
+bounds-key-at c = rw c.requires.width (place-inside c.args.size c.args.i c.args.j c.place-at.result c.place-at.ensures)
 
 pub offset_bounds-key-at-2 : goal.offset_bounds-key-at-2
-offset_bounds-key-at-2 c = let a = low c.args.size c.args.i c.args.j c.place-at.result c.place-at.ensures in omega arith
+offset_bounds-key-at-2 c = let a = place-low c.args.size c.args.i c.args.j c.place-at.result c.place-at.ensures in omega arith
 
 pub bounds-key-at-2 : goal.bounds-key-at-2
-bounds-key-at-2 c = rw c.requires.width (inside c.args.size c.args.i c.args.j c.place-at.result c.place-at.ensures)
+bounds-key-at-2 c = rw c.requires.width (place-inside c.args.size c.args.i c.args.j c.place-at.result c.place-at.ensures)
 
 pub add32-requires : goal.add32-requires
 add32-requires c =
     let r = schedule c.args.size in
     let b = c.args.b.now in
     record {
-      x_known = AreOf-word b c.args.key.now c.place-at.result (rw c.requires.width (inside c.args.size c.args.i c.args.j c.place-at.result c.place-at.ensures)) c.requires.key_known;
+      x_known = AreOf-word b c.args.key.now c.place-at.result (rw c.requires.width (place-inside c.args.size c.args.i c.args.j c.place-at.result c.place-at.ensures)) c.requires.key_known;
       y_known = rw c.constant_word-constant.ensures (AreOf-constant r c.args.i c.args.j b c.args.zero c.args.one c.requires.zero_known c.requires.one_known);
     }
 
