@@ -11,6 +11,11 @@ use mask_circuit::{Builder, CircuitError};
 use mask_parts::{add32, constant32, rot32};
 use mask_tasks::LeaSize;
 
+// The constants of the key schedule.
+const DELTAS: [u32; 8] = [
+    0xc3efe9db, 0x44626b02, 0x79e27c8a, 0x78df30ec, 0x715ea49e, 0xc785da0a, 0xe04ef22a, 0xe5c40957,
+];
+
 /// How many rounds there are.
 pub(crate) fn rounds(size: LeaSize) -> usize
     ensures { result ≡ (schedule size).rounds }
@@ -57,11 +62,7 @@ fn taken(size: LeaSize) -> [usize; 6]
 fn delta(size: LeaSize, i: usize) -> u32
     ensures { result ≡ delta (schedule size) i }
 {
-    let deltas = [
-        0xc3efe9db, 0x44626b02, 0x79e27c8a, 0x78df30ec, 0x715ea49e, 0xc785da0a, 0xe04ef22a,
-        0xe5c40957,
-    ];
-    deltas[i % words(size)]
+    DELTAS[i % words(size)]
 }
 
 // The constant of word j in round i.
