@@ -1,0 +1,3 @@
+pub mod Lea
+pub mod NamedLea
+pub mod Rounds
