@@ -74,10 +74,12 @@ fn encrypt(alloc: Global, given: &Given) -> Result<Outcome, AllocError> {
     let zeros = vec![in alloc; 0u8; given.zeros]?;
     let bytes = vec![in alloc; 0xa5u8; given.tape]?;
     let mut keys = MemSource::new(keys, 7, Vec::new(alloc));
-    let mut input = MemSource::new(zeros, given.piece, numbers(alloc, given.failing_read)?);
+    // No piece is empty.
+    let piece = given.piece.max(1);
+    let mut input = MemSource::new(zeros, piece, numbers(alloc, given.failing_read)?);
     let mut tape = MemEntropy::new(bytes, numbers(alloc, given.failing_fill)?);
     let failing_write = numbers(alloc, given.failing_write)?;
-    let mut out = MemSink::new(alloc, given.room, given.piece, failing_write)?;
+    let mut out = MemSink::new(alloc, given.room, piece, failing_write)?;
     run_on(alloc, &words, &mut keys, &mut input, &mut tape, &mut out)
 }
 
