@@ -6,7 +6,7 @@ use Rattle.std.proofs.lemmas.Bool.{and_parts, cases_order}
 use Rattle.std.proofs.lemmas.List.Sums.{AllPass-from_list_all}
 use Rattle.std.proofs.lemmas.Slice.Eq.{bytes_eq-Decides}
 use Rattle.mask_tasks.specs.declared.names.Named.{Named}
-use Rattle.mask_tasks.specs.declared.names.Named.TheVariants.{Present80, Present128, Refresh80, Refresh128}
+use Rattle.mask_tasks.specs.declared.names.Named.TheVariants.{Present80, Present128, Lea128, Lea192, Lea256, Refresh80, Refresh128, Refresh192, Refresh256}
 use Rattle.mask_tasks.specs.declared.names.TheConstants.{ALL}
 use Rattle.mask_tasks.specs.Names.{name_text}
 
@@ -16,8 +16,13 @@ name_at k = get_or ALL k Present80
 pub row_of : (name : Named) → (k : ℕ) × (k < length ALL) × (name_at k ≡ name)
 row_of Present80 = (0, lit< tt, refl)
 row_of Present128 = (1, lit< tt, refl)
-row_of Refresh80 = (2, lit< tt, refl)
-row_of Refresh128 = (3, lit< tt, refl)
+row_of Lea128 = (2, lit< tt, refl)
+row_of Lea192 = (3, lit< tt, refl)
+row_of Lea256 = (4, lit< tt, refl)
+row_of Refresh80 = (5, lit< tt, refl)
+row_of Refresh128 = (6, lit< tt, refl)
+row_of Refresh192 = (7, lit< tt, refl)
+row_of Refresh256 = (8, lit< tt, refl)
 
 differ : Named → Named → Bool
 differ a b = not (bytes_eq (name_text a) (name_text b))

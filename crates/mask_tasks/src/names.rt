@@ -10,17 +10,28 @@ pub enum Named {
     /// PRESENT in counter mode, on one block
     Present80,
     Present128,
+    /// LEA in counter mode, on one block
+    Lea128,
+    Lea192,
+    Lea256,
     /// fresh shares of a key
     Refresh80,
     Refresh128,
+    Refresh192,
+    Refresh256,
 }
 
 /// All of them.
-pub const ALL: [Named; 4] = [
+pub const ALL: [Named; 9] = [
     Named::Present80,
     Named::Present128,
+    Named::Lea128,
+    Named::Lea192,
+    Named::Lea256,
     Named::Refresh80,
     Named::Refresh128,
+    Named::Refresh192,
+    Named::Refresh256,
 ];
 
 impl Named {
@@ -31,8 +42,13 @@ impl Named {
         match self {
             Named::Present80 => "present-80",
             Named::Present128 => "present-128",
+            Named::Lea128 => "lea-128",
+            Named::Lea192 => "lea-192",
+            Named::Lea256 => "lea-256",
             Named::Refresh80 => "refresh-80",
             Named::Refresh128 => "refresh-128",
+            Named::Refresh192 => "refresh-192",
+            Named::Refresh256 => "refresh-256",
         }
     }
 
@@ -43,8 +59,13 @@ impl Named {
         match self {
             Named::Present80 => 208,
             Named::Present128 => 256,
+            Named::Lea128 => 384,
+            Named::Lea192 => 448,
+            Named::Lea256 => 512,
             Named::Refresh80 => 80,
             Named::Refresh128 => 128,
+            Named::Refresh192 => 192,
+            Named::Refresh256 => 256,
         }
     }
 
@@ -54,8 +75,11 @@ impl Named {
     {
         match self {
             Named::Present80 | Named::Present128 => 64,
+            Named::Lea128 | Named::Lea192 | Named::Lea256 => 128,
             Named::Refresh80 => 80,
             Named::Refresh128 => 128,
+            Named::Refresh192 => 192,
+            Named::Refresh256 => 256,
         }
     }
 }

@@ -3,13 +3,15 @@
 ghost use Rattle.std.specs.Prelude.{◌≡◌};
 ghost use Rattle.mask_tasks.specs.Tasks.{key_bytes, longest_message};
 
-use crate::sizes::KeySize;
+use crate::sizes::{KeySize, LeaSize};
 
 /// A cipher in counter mode. An IV is the big-endian number of its bytes.
 #[derive(Clone, Copy, Debug, PartialEq, Eq)]
 pub enum Task {
     /// PRESENT (ISO/IEC 29192-2)
     Present { size: KeySize, iv: u64 },
+    /// LEA (ISO/IEC 29192-2)
+    Lea { size: LeaSize, iv: u128 },
 }
 
 /// The length of a key in bytes.
@@ -18,6 +20,7 @@ pub fn key_length(task: &Task) -> u32
 {
     match *task {
         Task::Present { size, .. } => size.bytes(),
+        Task::Lea { size, .. } => size.bytes(),
     }
 }
 
@@ -26,6 +29,6 @@ pub fn message_limit(task: &Task) -> u64
     ensures { result ≡ longest_message task.now }
 {
     match *task {
-        Task::Present { .. } => 268_435_456,
+        Task::Present { .. } | Task::Lea { .. } => 268_435_456,
     }
 }

@@ -8,6 +8,11 @@ fn circuits_are_found_by_name(rt: HostRuntime) {
     assert_eq!(rt; Named::Present80.inputs(), 208);
     assert_eq!(rt; Named::Present80.outputs(), 64);
     assert_eq!(rt; Named::Refresh128.outputs(), 128);
+    assert_eq!(rt; circuit_named("lea-192"), Some(Named::Lea192));
+    assert_eq!(rt; Named::Lea192.inputs(), 448);
+    assert_eq!(rt; Named::Lea256.outputs(), 128);
+    assert_eq!(rt; circuit_named("refresh-256"), Some(Named::Refresh256));
+    assert_eq!(rt; Named::Refresh192.inputs(), 192);
 }
 
 #[test]
@@ -18,5 +23,10 @@ fn tasks_have_lengths(rt: HostRuntime) {
     };
     assert_eq!(rt; key_length(&cipher), 10);
     assert_eq!(rt; message_limit(&cipher), 268_435_456);
-    assert_eq!(rt; LeaSize::K192.bytes(), 24);
+    let cipher = Task::Lea {
+        size: LeaSize::K192,
+        iv: 1,
+    };
+    assert_eq!(rt; key_length(&cipher), 24);
+    assert_eq!(rt; message_limit(&cipher), 268_435_456);
 }
