@@ -2,9 +2,11 @@
 use Rattle.std.proofs.Common.{◌≡◌, ℕ, ◌+◌, ◌≤◌, length, refl, ap, arith}
 use Rattle.mask_circuit.specs.Netlist.{IsCircuit, value_count}
 use Rattle.mask_parts.specs.CipherCircuits.{Size, size_of, IsCipherCircuit}
-use Rattle.mask_tasks.specs.declared.names.Named.TheVariants.{Present80, Present128, Refresh80, Refresh128}
+use Rattle.mask_tasks.specs.declared.names.Named.TheVariants.{Present80, Present128, Lea128, Lea192, Lea256, Refresh80, Refresh128, Refresh192, Refresh256}
 use Rattle.mask_tasks.specs.declared.sizes.KeySize.TheVariants.{K80, K128}
+use Rattle.mask_tasks.specs.declared.sizes.LeaSize.TheVariants as lea
 use Rattle.mask_present.proofs.Forming.{IsCipherCircuit-named_present}
+use Rattle.mask_lea.proofs.Concluding.{IsCipherCircuit-named_lea}
 use Rattle.mask_refresh.specs.Refreshing.{refreshing, refreshing_size, same_bits}
 use Rattle.mask_refresh.proofs.Making.{IsWellFormed-refreshing, size-refreshing, IsCipherCircuit-refreshing}
 use Rattle.mask_emit.specs.Emitting.{NamedCircuits}
@@ -24,3 +26,8 @@ named-circuits Present80 = IsCipherCircuit-named_present K80
 named-circuits Present128 = IsCipherCircuit-named_present K128
 named-circuits Refresh80 = IsCipherCircuit-refresh 80 (omega arith)
 named-circuits Refresh128 = IsCipherCircuit-refresh 128 (omega arith)
+named-circuits Refresh192 = IsCipherCircuit-refresh 192 (omega arith)
+named-circuits Refresh256 = IsCipherCircuit-refresh 256 (omega arith)
+named-circuits Lea128 = IsCipherCircuit-named_lea lea.K128
+named-circuits Lea192 = IsCipherCircuit-named_lea lea.K192
+named-circuits Lea256 = IsCipherCircuit-named_lea lea.K256

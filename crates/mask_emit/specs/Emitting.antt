@@ -5,9 +5,11 @@ use Rattle.mask_circuit.specs.Netlist.{Netlist}
 use Rattle.mask_circuit.specs.Text.{canonical}
 use Rattle.mask_parts.specs.CipherCircuits.{Size, IsCipherCircuit}
 use Rattle.mask_tasks.specs.declared.names.Named.{Named}
-use Rattle.mask_tasks.specs.declared.names.Named.TheVariants.{Present80, Present128, Refresh80, Refresh128}
+use Rattle.mask_tasks.specs.declared.names.Named.TheVariants.{Present80, Present128, Lea128, Lea192, Lea256, Refresh80, Refresh128, Refresh192, Refresh256}
 use Rattle.mask_tasks.specs.declared.sizes.KeySize.TheVariants.{K80, K128}
+use Rattle.mask_tasks.specs.declared.sizes.LeaSize.TheVariants as lea
 use Rattle.mask_present.specs.NamedPresent.{named_present, size_present, present_of_bits}
+use Rattle.mask_lea.specs.NamedLea.{named_lea, size_lea, lea_of_bits}
 use Rattle.mask_refresh.specs.Refreshing.{refreshing, refreshing_size, same_bits}
 use Rattle.mask_status.specs.declared.status.Status.{Status}
 use Rattle.mask_status.specs.declared.status.Status.TheVariants.{NoMemory}
@@ -17,22 +19,37 @@ use Rattle.mask_status.specs.Ends.{Writes}
 abbrev pub named : Named → Netlist
 named Present80 = named_present K80
 named Present128 = named_present K128
+named Lea128 = named_lea lea.K128
+named Lea192 = named_lea lea.K192
+named Lea256 = named_lea lea.K256
 named Refresh80 = refreshing 80
 named Refresh128 = refreshing 128
+named Refresh192 = refreshing 192
+named Refresh256 = refreshing 256
 
 -- how large it is
 abbrev pub sizes : Named → Size
 sizes Present80 = size_present K80
 sizes Present128 = size_present K128
+sizes Lea128 = size_lea lea.K128
+sizes Lea192 = size_lea lea.K192
+sizes Lea256 = size_lea lea.K256
 sizes Refresh80 = refreshing_size 80
 sizes Refresh128 = refreshing_size 128
+sizes Refresh192 = refreshing_size 192
+sizes Refresh256 = refreshing_size 256
 
--- what it computes of its input bits: PRESENT of the counter block under the key, xored with the message block; or the key
+-- what it computes of its input bits: PRESENT or LEA of the counter block under the key, xored with the message block; or the key
 abbrev pub computed : Named → List Bool → List Bool
 computed Present80 = present_of_bits K80
 computed Present128 = present_of_bits K128
+computed Lea128 = lea_of_bits lea.K128
+computed Lea192 = lea_of_bits lea.K192
+computed Lea256 = lea_of_bits lea.K256
 computed Refresh80 = same_bits
 computed Refresh128 = same_bits
+computed Refresh192 = same_bits
+computed Refresh256 = same_bits
 
 -- Each named circuit is strong, of its size, and computes what its name says.
 abbrev pub NamedCircuits : Type 0

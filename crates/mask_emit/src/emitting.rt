@@ -10,6 +10,7 @@ ghost use Rattle.mask_emit.specs.Emitting.{named, sizes, computed, Emits};
 use mask_check::Strong;
 use mask_circuit::Steps;
 use mask_io::Sink;
+use mask_lea::{LeaSize, lea_circuit};
 use mask_present::{KeySize, present_circuit};
 use mask_refresh::refresh_circuit;
 use mask_status::Status;
@@ -54,7 +55,12 @@ fn built<L: Ledger>(
     match circuit {
         Named::Present80 => present_circuit(alloc, KeySize::K80, steps),
         Named::Present128 => present_circuit(alloc, KeySize::K128, steps),
+        Named::Lea128 => lea_circuit(alloc, LeaSize::K128, steps),
+        Named::Lea192 => lea_circuit(alloc, LeaSize::K192, steps),
+        Named::Lea256 => lea_circuit(alloc, LeaSize::K256, steps),
         Named::Refresh80 => refresh_circuit(alloc, 80, steps),
         Named::Refresh128 => refresh_circuit(alloc, 128, steps),
+        Named::Refresh192 => refresh_circuit(alloc, 192, steps),
+        Named::Refresh256 => refresh_circuit(alloc, 256, steps),
     }
 }

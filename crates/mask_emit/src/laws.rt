@@ -2,7 +2,7 @@
 
 ghost use Rattle.mask_emit.specs.Emitting.{NamedCircuits};
 
-/// Each named circuit is strong, of its size, and computes what its name says: PRESENT of the counter block under the key,
+/// Each named circuit is strong, of its size, and computes what its name says: PRESENT or LEA of the counter block under the key,
 /// xored with the message block; or the key itself.
 pub fn named_circuits()
     ensures { NamedCircuits }

@@ -9,7 +9,7 @@ use Rattle.mask_bits.specs.Reading.{low, bytes_for}
 use Rattle.mask_bits.proofs.Bytes.{length-low}
 use Rattle.mask_io.specs.Outside.{AppendsProperPrefix}
 use Rattle.mask_tasks.specs.declared.tasks.Task.{Task}
-use Rattle.mask_tasks.specs.declared.tasks.Task.TheVariants.{Present}
+use Rattle.mask_tasks.specs.declared.tasks.Task.TheVariants.{Present, Lea}
 use Rattle.mask_tasks.specs.Tasks.{longest_message}
 use Rattle.mask_keys.specs.Lines.{joined}
 use Rattle.mask_trace.specs.Steps.{Step, bits_of}
@@ -58,6 +58,7 @@ wanted-within done next all fresh wanted a b none drew is some fit =
 -- where a batch passes the limit, whole batches have reached it
 full : (task : Task) (limit n k : ℕ) → limit ≡ longest_message task → AreBatches task n → n ≤ longest_message task → k ≤ batch_length task → limit < n + k → n ≡ limit
 full (Present size iv) limit n k is whole within few over = omega arith
+full (Lea size iv) limit n k is whole within few over = omega arith
 
 -- WRITING
 

@@ -3,7 +3,7 @@ use Rattle.std.proofs.Common.{◌≡◌, ℕ, ◌+◌, ◌-◌, ◌*◌, ◌%◌
 use Rattle.std.proofs.KnownBytes.{Appends-nil, Appends-trans, Consumes-nil, Consumes-trans}
 use Rattle.std.specs.Io.KnownBytes.{Appends, Consumes}
 use Rattle.mask_tasks.specs.declared.tasks.Task.{Task}
-use Rattle.mask_tasks.specs.declared.tasks.Task.TheVariants.{Present}
+use Rattle.mask_tasks.specs.declared.tasks.Task.TheVariants.{Present, Lea}
 use Rattle.mask_tasks.specs.Tasks.{key_bytes, longest_message}
 use Rattle.mask_trace.specs.Steps.{Step}
 use Rattle.mask_trace.specs.Drawing.{Stand, Ran}
@@ -30,20 +30,25 @@ AreBatches task n = n % batch_length task ≡ 0
 -- whole batches are whole blocks
 whole_blocks : (task : Task) (n : ℕ) → AreBatches task n → n ≡ block_count (mode_of task).block n * (mode_of task).block
 whole_blocks (Present size iv) n whole = omega arith
+whole_blocks (Lea size iv) n whole = omega arith
 
 pub block_is_some : (task : Task) → 0 < (mode_of task).block
 block_is_some (Present size iv) = omega arith
+block_is_some (Lea size iv) = omega arith
 
 pub no_batches : (task : Task) → AreBatches task 0
 no_batches (Present size iv) = refl
+no_batches (Lea size iv) = refl
 
 pub batches-more : (task : Task) (n k : ℕ) → AreBatches task n → k ≡ batch_length task → AreBatches task (n + k)
 batches-more (Present size iv) n k whole all = omega arith
+batches-more (Lea size iv) n k whole all = omega arith
 
 -- a batch more leaves less room below the limit
 pub room-smaller : (task : Task) (fed fed' n : ℕ) → fed' ≡ fed + n → fed + n ≤ longest_message task → n ≡ batch_length task →
     longest_message task - fed' < longest_message task - fed
 room-smaller (Present size iv) fed fed' n is within all = omega arith
+room-smaller (Lea size iv) fed fed' n is within all = omega arith
 
 -- PLANS AND CIPHERTEXTS
 
@@ -60,6 +65,7 @@ plan-more task front piece whole =
 
 pub length-key_bits : (task : Task) (key : List ℕ) → 8 * length key ≡ (mode_of task).key → length (key_bits task key) ≡ (mode_of task).key
 length-key_bits (Present size iv) key long = bytes_are_read.high_first.count key ∙ long
+length-key_bits (Lea size iv) key long = bytes_are_read.low_first.count key ∙ long
 
 -- what is written of whole batches and more
 pub output-more : (task : Task) (key front piece : List ℕ) → 8 * length key ≡ (mode_of task).key → AreBatches task (length front) →
@@ -96,6 +102,7 @@ pub record SoFar (task : Task) (N : ℕ) (lines : List (List ℕ)) (bytes : List
 plan-none : (task : Task) → plan task [] ≡ []
 unfolding steps_from
 plan-none (Present size iv) = refl
+plan-none (Lea size iv) = refl
 
 within-none : (task : Task) → 0 ≤ longest_message task
 within-none task = omega arith
@@ -151,6 +158,7 @@ module _ (task : Task) (N : ℕ) (lines : List (List ℕ)) (front piece : List �
 output-none : (task : Task) (key : List ℕ) → output task key [] ≡ []
 unfolding output ciphertext_from
 output-none (Present size iv) key = refl
+output-none (Lea size iv) key = refl
 
 -- nothing was taken yet
 pub so_far-none : (task : Task) (N : ℕ) (lines : List (List ℕ)) (s : Progress) (left out : Option (List ℕ)) (a : Stand) → a.kept ≡ [] →

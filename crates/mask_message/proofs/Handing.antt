@@ -12,7 +12,7 @@ use Rattle.mask_circuit.proofs.Places.{length-each}
 use Rattle.mask_shares.proofs.Lists.{get_or-each}
 use Rattle.mask_eval.proofs.Shared.{unmasked_in_lane}
 use Rattle.mask_tasks.specs.declared.tasks.Task.{Task}
-use Rattle.mask_tasks.specs.declared.tasks.Task.TheVariants.{Present}
+use Rattle.mask_tasks.specs.declared.tasks.Task.TheVariants.{Present, Lea}
 use Rattle.mask_tasks.specs.Tasks.{key_bytes}
 use Rattle.mask_keys.specs.Lines.{joined, line_length}
 use Rattle.mask_trace.specs.Drawing.{Stand}
@@ -107,6 +107,7 @@ module _ (task : Task) (key : List Bool) (long : length key ≡ (mode_of task).k
 -- the key that lines join to has the bits of a key
 pub joined-long : (task : Task) (lines : List (List ℕ)) → line_length lines ≡ key_bytes task → 8 * length (joined lines) ≡ (mode_of task).key
 joined-long (Present size iv) lines long = omega (arith, long, length-each (λ b. unmasked words (map (λ (line : List ℕ). get_or line b 0) lines)) (line_length lines))
+joined-long (Lea size iv) lines long = omega (arith, long, length-each (λ b. unmasked words (map (λ (line : List ℕ). get_or line b 0) lines)) (line_length lines))
 
 module _ (task : Task) (N : ℕ) (lines : List (List ℕ)) (front piece : List ℕ) (s : Progress) (a b : Stand)
     (behind : Behind task N lines front s a b) (long : 8 * length (joined lines) ≡ (mode_of task).key) where

@@ -2,7 +2,7 @@
 use Rattle.std.proofs.Common.{◌≡◌, ℕ, suc, ◌+◌, ◌-◌, ◌*◌, ◌/◌, ◌%◌, ◌<◌, Bool, true, false, List, [], ◌∷◌, length, map, get_or, refl, sym, ap, ap₂, ◌∙◌, arith}
 use Rattle.std.specs.Prelude.{slice_index}
 use mir.Val.{bool_byte}
-use Rattle.mask_bits.specs.Reading.{bit, high}
+use Rattle.mask_bits.specs.Reading.{bit, low, high}
 use Rattle.mask_modes.proofs.Readings.{bytes_are_read}
 
 -- two lists that a map each takes to the same elements
@@ -19,7 +19,12 @@ pub bit_of_bool : (b : Bool) → bit 0 (bool_byte b) ≡ b
 bit_of_bool true = refl
 bit_of_bool false = refl
 
--- where the bit of weight 2 ^ j of a big-endian number stands
+-- where the bit of weight 2 ^ j of a little-endian number stands, and of a big-endian one
+pub low_bit_is : (bytes : List ℕ) (j : ℕ) → j < 8 * length bytes → bit (j % 8) (slice_index bytes (j / 8)) ≡ get_or (low bytes) j false
+low_bit_is bytes j lt =
+    let place : 8 * (j / 8) + j % 8 ≡ j = omega arith in
+    sym (bytes_are_read.low_place bytes (j / 8) (j % 8) (omega arith) (omega arith)) ∙ ap (λ (i : ℕ). get_or (low bytes) i false) place
+
 pub high_bit_is : (bytes : List ℕ) (j : ℕ) → j < 8 * length bytes → bit (j % 8) (slice_index bytes (length bytes - 1 - j / 8)) ≡ get_or (high bytes) j false
 high_bit_is bytes j lt =
     let place : 8 * (length bytes - 1 - (length bytes - 1 - j / 8)) + j % 8 ≡ j = omega arith in

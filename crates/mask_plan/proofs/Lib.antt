@@ -1,4 +1,5 @@
 mod Bits
 mod Places
+mod Sizes
 mod StepExamples
 mod Taking

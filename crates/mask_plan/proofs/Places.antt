@@ -3,7 +3,7 @@ use Rattle.std.proofs.Common.{◌≡◌, ℕ, suc, ◌+◌, ◌-◌, ◌*◌, �
 use Rattle.std.specs.Prelude.{slice_index}
 use Rattle.mask_bits.specs.Reading.{bit, high}
 use Rattle.mask_tasks.specs.declared.tasks.Task.{Task}
-use Rattle.mask_tasks.specs.declared.tasks.Task.TheVariants.{Present}
+use Rattle.mask_tasks.specs.declared.tasks.Task.TheVariants.{Present, Lea}
 use Rattle.mask_modes.specs.CounterMode.{block_count}
 use Rattle.mask_modes.specs.Steps.{IsBlock}
 use Rattle.mask_modes.proofs.Readings.{bytes_are_read}
@@ -17,27 +17,37 @@ bit_stands (Present size iv) byte p lt small block is =
     let long : length block ≡ 8 = is.0 in
     let place : 8 * (8 - suc byte) + p ≡ 8 * (length block - 1 - byte) + p = omega arith in
     ap (λ (j : ℕ). get_or (high block) j false) place ∙ bytes_are_read.high_place block byte p (omega arith) small
+bit_stands (Lea size iv) byte p lt small block is =
+    let long : length block ≡ 16 = is.0 in
+    bytes_are_read.low_place block byte p (omega arith) small
 
 -- a byte stands in one of the blocks
 pub block_of_byte : (task : Task) (k n : ℕ) → k < n → k / (mode_of task).block < block_count (mode_of task).block n
 block_of_byte (Present size iv) k n lt = omega arith
+block_of_byte (Lea size iv) k n lt = omega arith
 
 pub byte_of_block : (task : Task) (k : ℕ) → k % (mode_of task).block < (mode_of task).block
 byte_of_block (Present size iv) k = omega arith
+byte_of_block (Lea size iv) k = omega arith
 
 pub some_bytes : (task : Task) → 0 < (mode_of task).block
 some_bytes (Present size iv) = omega arith
+some_bytes (Lea size iv) = omega arith
 
-pub eight_bytes : (task : Task) → (mode_of task).block ≡ 8
-eight_bytes (Present size iv) = refl
+pub eight_bytes : (task : Task) → 8 ≤ (mode_of task).block
+eight_bytes (Present size iv) = omega arith
+eight_bytes (Lea size iv) = omega arith
 
 -- behind whole batches the blocks of more bytes follow, and another batch leaves whole ones
 pub blocks_follow : (task : Task) (fed n : ℕ) → fed % batch_length task ≡ 0 →
     block_count (mode_of task).block (fed + n) ≡ block_count (mode_of task).block fed + block_count (mode_of task).block n
 blocks_follow (Present size iv) fed n whole = omega arith
+blocks_follow (Lea size iv) fed n whole = omega arith
 
 pub whole_follows : (task : Task) (fed n : ℕ) → fed % batch_length task ≡ 0 → n ≡ batch_length task → (fed + n) % batch_length task ≡ 0
 whole_follows (Present size iv) fed n whole is = omega arith
+whole_follows (Lea size iv) fed n whole is = omega arith
 
 pub whole_at_first : (task : Task) → 0 % batch_length task ≡ 0
 whole_at_first (Present size iv) = refl
+whole_at_first (Lea size iv) = refl

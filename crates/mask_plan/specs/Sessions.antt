@@ -8,7 +8,7 @@ use Rattle.mask_tape.specs.Tape.{new_bytes}
 use Rattle.mask_tape.specs.declared.tape.TapeError.{TapeError}
 use Rattle.mask_tape.specs.declared.tape.TapeError.TheVariants as tape_error
 use Rattle.mask_tasks.specs.declared.tasks.Task.{Task}
-use Rattle.mask_tasks.specs.declared.tasks.Task.TheVariants.{Present}
+use Rattle.mask_tasks.specs.declared.tasks.Task.TheVariants.{Present, Lea}
 use Rattle.mask_tasks.specs.Tasks.{longest_message}
 use Rattle.mask_trace.specs.Steps.{Registers, Step, bits_of}
 use Rattle.mask_trace.specs.Traces.{BitShares}
@@ -36,6 +36,7 @@ pub record Progress : Type 0 where
 -- how many bytes are taken at once: 64 blocks
 abbrev pub batch_length : Task → ℕ
 batch_length (Present size iv) = 512
+batch_length (Lea size iv) = 1_024
 
 -- what it has in shares
 abbrev pub have : Progress → Registers BitShares
@@ -56,6 +57,7 @@ next_output s piece = ciphertext_from (mode_of s.task).block (mode_of s.task).iv
 -- where a block has bit `place` of its byte `byte`, as the cipher reads its bytes
 abbrev pub bit_place : Task → ℕ → ℕ → ℕ
 bit_place (Present size iv) byte place = 8 * (8 - suc byte) + place
+bit_place (Lea size iv) byte place = 8 * byte + place
 
 -- the words of the shares of that bit, a block in each lane
 abbrev pub out_words : Progress → ℕ → ℕ → List ℕ

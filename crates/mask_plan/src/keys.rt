@@ -2,7 +2,7 @@
 
 ghost use Rattle.std.specs.Prelude.{◌≡◌, ℕ, ◌*◌, ◌<◌, ◌≤◌, false, List, length, map, slice_index_or, IfOk};
 ghost use Rattle.mask_bits.specs.Lanes.{lane};
-ghost use Rattle.mask_bits.specs.Reading.{bit, high};
+ghost use Rattle.mask_bits.specs.Reading.{bit, low, high};
 ghost use Rattle.mask_keys.specs.Lines.{line_length};
 ghost use Rattle.mask_tasks.specs.Tasks.{key_bytes};
 ghost use Rattle.mask_ciphers.specs.Tasks.{key_bits, key_shares};
@@ -53,7 +53,16 @@ fn line_bit(task: &Task, line: &[u8], j: usize) -> u64
 {
     match *task {
         Task::Present { .. } => high_bit(line, j),
+        Task::Lea { .. } => low_bit(line, j),
     }
+}
+
+// Bit j of a little-endian number, that of weight 1 first.
+fn low_bit(bytes: &[u8], j: usize) -> u64
+    requires { j < 8 * length bytes.now }
+    ensures { bit 0 result ≡ slice_index_or (low bytes.now) j false }
+{
+    u64::from(bit_of(u64::from(bytes[j / 8]), (j % 8) as u32))
 }
 
 // Bit j of a big-endian number, that of weight 1 first.

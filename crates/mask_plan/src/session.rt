@@ -97,7 +97,7 @@ impl<const N: usize> Session<N> {
         })
     }
 
-    /// How many bytes `feed` takes: 512 for PRESENT, which is 64 blocks of 8 bytes.
+    /// How many bytes `feed` takes: 512 for PRESENT, which is 64 blocks of 8 bytes, and 1,024 for LEA, which is 64 blocks of 16.
     pub fn batch_bytes(&self) -> usize
         ensures { result ≡ batch_length self.now.task }
     {

@@ -3,18 +3,19 @@
 ghost use Rattle.std.specs.Prelude.{◌≡◌, ◌+◌, ◌*◌, ◌<◌, ◌≤◌, length, map, IfOk};
 ghost use Rattle.mask_bits.specs.Lanes.{lane};
 ghost use Rattle.mask_check.specs.Costs.{most_steps};
-ghost use Rattle.mask_tasks.specs.Sizes.{present_bytes};
+ghost use Rattle.mask_tasks.specs.Sizes.{present_bytes, lea_bytes};
 ghost use Rattle.mask_tasks.specs.Tasks.{key_bytes};
-ghost use Rattle.mask_ciphers.specs.Tasks.{mode_of, present_mode};
+ghost use Rattle.mask_ciphers.specs.Tasks.{mode_of, present_mode, lea_mode};
 ghost use Rattle.mask_plan.specs.Sessions.{batch_length, bit_place};
 ghost use Rattle.mask_plan.specs.Inside.{BeginsRun};
 
 use mask_circuit::Steps;
 use mask_counter::{BitOrder, CounterRun};
+use mask_lea::lea_circuit;
 use mask_present::present_circuit;
 use mask_refresh::refresh_circuit;
 use mask_shares::Shares;
-use mask_tasks::{KeySize, Task};
+use mask_tasks::{KeySize, LeaSize, Task};
 use std::alloc::{AllocError, Global};
 use std::sync::ledger::Ledger;
 
@@ -24,6 +25,7 @@ pub(crate) fn bytes_at_once(task: &Task) -> usize
 {
     match *task {
         Task::Present { .. } => 512,
+        Task::Lea { .. } => 1_024,
     }
 }
 
@@ -36,6 +38,7 @@ pub(crate) fn place_in_block(task: &Task, byte: u32, place: u32) -> usize
 {
     match *task {
         Task::Present { .. } => 8 * (7 - byte as usize) + place as usize,
+        Task::Lea { .. } => 8 * byte as usize + place as usize,
     }
 }
 
@@ -54,6 +57,7 @@ pub(crate) fn run_of<const N: usize, L: Ledger>(
 {
     match *task {
         Task::Present { size, iv } => present_run(alloc, size, iv, key, steps),
+        Task::Lea { size, iv } => lea_run(alloc, size, iv, key, steps),
     }
 }
 
@@ -82,4 +86,23 @@ fn present_run<const N: usize, L: Ledger>(
         u128::from(iv),
         key,
     )
+}
+
+// A run of LEA with this key and IV.
+fn lea_run<const N: usize, L: Ledger>(
+    alloc: Global,
+    size: LeaSize,
+    iv: u128,
+    key: &[Shares<N>],
+    steps: &mut Steps<L>,
+) -> Result<CounterRun<N>, AllocError>
+    requires some { 2 ≤ N }
+    requires few { N ≤ 8 }
+    requires length { length key.now ≡ 8 * lea_bytes size }
+    ensures begins { IfOk result (BeginsRun (lea_mode size iv) (map (lane 0) key.now)) }
+    ensures steps { steps.new ≤ steps.old + (most_steps (lea_mode size iv).circuit + most_steps (lea_mode size iv).refresh) }
+{
+    let circuit = lea_circuit(alloc, size, steps)?;
+    let refresh = refresh_circuit(alloc, 8 * size.bytes(), steps)?;
+    CounterRun::new(alloc, circuit, refresh, 16, BitOrder::LowFirst, iv, key)
 }
