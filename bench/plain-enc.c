@@ -1,15 +1,27 @@
-/* PRESENT with a key of 80 bits in counter mode, in plain C: the same circuits on the same shares and coins as `mask` evaluates,
- * which keep each operation in its place.
+/* A block cipher in counter mode, in plain C: the same circuits on the same shares and coins as `mask` evaluates, which keep each
+ * operation in its place.
  *
- *   plain-enc ORDER IV KEYS TAPE CIPHER REFRESH < message > ciphertext
+ *   plain-enc CIPHER ORDER IV KEYS TAPE CIRCUIT REFRESH < message > ciphertext
  *
- * ORDER is 1, 3 or 7, KEYS and TAPE are files, and CIPHER and REFRESH are what `emit present-80` and `emit refresh-80` write. The
- * message has whole batches of 512 bytes. Status 2 says that something is wrong. */
+ * CIPHER is present-80 or lea-128, ORDER is 1, 3 or 7, KEYS and TAPE are files, and CIRCUIT and REFRESH are what `emit` writes for the
+ * cipher and for a refresh of its key. The message has whole batches of 64 blocks. Status 2 says that something is wrong. */
 #include <stdio.h>
 #include <string.h>
 #include "plain-words.h"
 
-enum { KEY = 80, BLOCK = 64, LANES = 64, BATCH = 512 };
+/* The most bits of a key and of a block, and the most bytes of a batch. */
+enum { KEY = 128, BLOCK = 128, LANES = 64, BATCH = 1024 };
+
+typedef unsigned __int128 counter;
+
+/* The bits of a key and of a block. Bytes are read from the first one on, or from the last one on, and of each the lowest bit first. */
+struct cipher { const char *name; int key, block, first_byte_first; };
+static const struct cipher ciphers[] = {{"present-80", 80, 64, 0}, {"lea-128", 128, 128, 1}};
+
+static size_t batch(const struct cipher *cipher) { return LANES * cipher->block / 8; }
+
+/* Which byte of so many bits this one is, in the order of reading. */
+static int place(const struct cipher *cipher, int bits, int byte) { return cipher->first_byte_first ? byte : bits / 8 - 1 - byte; }
 
 static FILE *open_file(const char *path) {
   FILE *file = fopen(path, "rb");
@@ -23,18 +35,18 @@ static void read_bytes(FILE *file, unsigned char *bytes, size_t count) {
 
 /* The circuit of a text of version 1 that has no comments. */
 static struct circuit read_circuit(const char *path) {
-  static const char *names[] = {"xor", "not", "ref", "and"};
+  static const char *names[] = {"xor", "not", "ref", "and", "zero", "one"};
   FILE *file = open_file(path);
-  struct circuit c = {.gates = room(20000 * sizeof *c.gates), .output = room(20000 * sizeof *c.output)};
+  struct circuit c = {.gates = room(40000 * sizeof *c.gates), .output = room(40000 * sizeof *c.output)};
   char line[64], name[8];
   uint32_t u, v;
   if (!fgets(line, sizeof line, file) || !fgets(line, sizeof line, file) || sscanf(line, "inputs %d", &c.inputs) != 1) exit(2);
   while (fgets(line, sizeof line, file) && strcmp(line, "end\n")) {
     u = v = 0;
-    if (sscanf(line, "%7s %u %u", name, &u, &v) < 2 || c.count == 20000) exit(2);
+    if (sscanf(line, "%7s %u %u", name, &u, &v) < 1 || c.count == 40000) exit(2);
     if (!strcmp(name, "out")) { c.output[c.outputs++] = u; continue; }
     enum kind kind = XOR;
-    while (strcmp(name, names[kind])) if (kind++ == AND) exit(2);
+    while (strcmp(name, names[kind])) if (kind++ == ONE) exit(2);
     c.gates[c.count++] = (struct gate){kind, u, v};
   }
   fclose(file);
@@ -52,10 +64,33 @@ static void transpose(word rows[64]) {
     }
 }
 
-static word big_endian(const unsigned char *bytes) {
-  word number = 0;
-  for (int k = 0; k < 8; k++) number = number << 8 | bytes[k];
-  return number;
+/* Row j has bit j of 64 blocks. */
+static void read_blocks(const struct cipher *cipher, const unsigned char *bytes, word *rows) {
+  int count = cipher->block / 8;
+  memset(rows, 0, cipher->block * sizeof *rows);
+  for (int l = 0; l < LANES; l++)
+    for (int byte = 0; byte < count; byte++) {
+      int at = place(cipher, cipher->block, byte);
+      rows[at / 8 * 64 + l] |= (word)bytes[count * l + byte] << at % 8 * 8;
+    }
+  for (int part = 0; part < cipher->block; part += 64) transpose(rows + part);
+}
+
+static void write_blocks(const struct cipher *cipher, word *rows, unsigned char *bytes) {
+  int count = cipher->block / 8;
+  for (int part = 0; part < cipher->block; part += 64) transpose(rows + part);
+  for (int l = 0; l < LANES; l++)
+    for (int byte = 0; byte < count; byte++) {
+      int at = place(cipher, cipher->block, byte);
+      bytes[count * l + byte] = rows[at / 8 * 64 + l] >> at % 8 * 8;
+    }
+}
+
+/* 64 counters in a row, as big-endian numbers. */
+static void write_counters(const struct cipher *cipher, counter first, unsigned char *bytes) {
+  int count = cipher->block / 8;
+  for (int l = 0; l < LANES; l++)
+    for (int byte = 0; byte < count; byte++) bytes[count * l + byte] = (first + l) >> 8 * (count - 1 - byte);
 }
 
 /* The next coins of the tape for so many lanes: lane l owns the bits from l * count on, the lowest bit of a byte first. A batch and a
@@ -81,18 +116,27 @@ static int coin_count(const struct circuit *c, int pairs) {
   return count;
 }
 
-#define EACH "plain-present.h"
+#define EACH "plain-blocks.h"
 #include "plain-each.h"
 
+static counter hexadecimal(const char *digits) {
+  counter number = 0;
+  unsigned digit;
+  for (; sscanf(digits, "%1x", &digit) == 1; digits++) number = number << 4 | digit;
+  return number;
+}
+
 int main(int count, char **words) {
-  if (count != 7) return 2;
-  struct circuit cipher = read_circuit(words[5]), refresh = read_circuit(words[6]);
-  FILE *keys = open_file(words[3]), *tape = open_file(words[4]);
-  word iv = strtoull(words[2], 0, 16);
-  switch (atoi(words[1])) {
-  case 1: encrypt_2(&cipher, &refresh, keys, tape, iv); return 0;
-  case 3: encrypt_4(&cipher, &refresh, keys, tape, iv); return 0;
-  case 7: encrypt_8(&cipher, &refresh, keys, tape, iv); return 0;
+  if (count != 8) return 2;
+  const struct cipher *cipher = ciphers;
+  if (strcmp(words[1], cipher->name)) cipher++;
+  struct circuit circuit = read_circuit(words[6]), refresh = read_circuit(words[7]);
+  FILE *keys = open_file(words[4]), *tape = open_file(words[5]);
+  counter iv = hexadecimal(words[3]);
+  switch (atoi(words[2])) {
+  case 1: encrypt_2(cipher, &circuit, &refresh, keys, tape, iv); return 0;
+  case 3: encrypt_4(cipher, &circuit, &refresh, keys, tape, iv); return 0;
+  case 7: encrypt_8(cipher, &circuit, &refresh, keys, tape, iv); return 0;
   }
   return 2;
 }

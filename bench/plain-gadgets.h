@@ -48,6 +48,10 @@ static __attribute__((noinline)) void AT(evaluate)(const struct circuit *circuit
       (*out)[0] = flipped(left[0]);
       for (int i = 1; i < N; i++) (*out)[i] = same(left[i]);
       break;
+    case ZERO:
+    case ONE:
+      for (int i = 0; i < N; i++) (*out)[i] = i || gates[k].kind == ZERO ? 0 : ~(word)0;
+      break;
     case REF: AT(ref_gadget)(left, &coins, *out); break;
     case AND: AT(and_gadget)(left, right, &coins, *out); break;
     }

@@ -3,7 +3,7 @@
 #include <stdlib.h>
 
 typedef uint64_t word;
-enum kind { XOR, NOT, REF, AND };
+enum kind { XOR, NOT, REF, AND, ZERO, ONE };
 struct gate { enum kind kind; uint32_t left, right; };
 struct circuit { int inputs, count, outputs; struct gate *gates; uint32_t *output; };
 

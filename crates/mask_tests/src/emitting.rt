@@ -13,6 +13,10 @@ fn emits_circuits_that_are_strong(rt: HostRuntime) -> Result<(), Fail> {
             "accepted values=16166 and=2635 ref=2699 strong=yes\n",
         ),
         (
+            "lea-128",
+            "accepted values=36330 and=5208 ref=5336 strong=yes\n",
+        ),
+        (
             "refresh-80",
             "accepted values=160 and=0 ref=80 strong=yes\n",
         ),
@@ -20,7 +24,7 @@ fn emits_circuits_that_are_strong(rt: HostRuntime) -> Result<(), Fail> {
         let mut keys = ClosedSource::new();
         let mut tape = ClosedEntropy::new();
         let mut nothing = ClosedSource::new();
-        let mut text = MemSink::new(rt.alloc(), 400_000, 4_096, Vec::new(rt.alloc()))?;
+        let mut text = MemSink::new(rt.alloc(), 700_000, 4_096, Vec::new(rt.alloc()))?;
         let words = ["-", SEED, "emit", name];
         let emitted = run_on(
             rt.alloc(),

@@ -1,15 +1,16 @@
-//! `enc` on zeros, with PRESENT and a key of 80 bits: what is written, drawn and told, and what a fault leaves.
+//! `enc` on zeros: what is written, drawn and told, and what a fault leaves.
 
 use crate::runs::{Outcome, SEED, run_on};
 use mask_io::{MemEntropy, MemSink, MemSource};
-use mask_run::{Status, status_number};
+use mask_run::{KeyReason, Status, status_number};
 use std::alloc::{AllocError, Global};
 use std::test::Fail;
 
-// What a run is given: its words, the key file, so many zeros as message and a tape of so many bytes, how many bytes are read
+// What a run is given: the words that differ, the key file, so many zeros as message and a tape of so many bytes, how many bytes are read
 // and written at once, and which calls fail, counted from 0.
 #[derive(Clone, Copy)]
 struct Given {
+    cipher: &'static str,
     order: &'static str,
     iv: &'static str,
     keys: &'static str,
@@ -22,8 +23,10 @@ struct Given {
     failing_write: Option<u32>,
 }
 
-// Eight zeros under the key 0, which two equal lines are shares of, and an IV of 0. They take 5334 + 64 random bits.
+// Eight zeros under PRESENT with a key of 80 bits: the key 0, which two equal lines are shares of, and an IV of 0. They take
+// 5334 + 64 random bits.
 const EIGHT: Given = Given {
+    cipher: "present-80",
     order: "1",
     iv: "0000000000000000",
     keys: "0123456789abcdef0123\n0123456789abcdef0123\n",
@@ -54,6 +57,51 @@ const HIGHEST: Given = Given {
     ..EIGHT
 };
 
+// A block of zeros under LEA, with the published keys, whose IV is the block that is encrypted: 3 * 10544 + 2 * 128 random bits at
+// order 2, and 15752 + 128 and 17984 + 128 at order 1 with the longer keys.
+const LEA_128: Given = Given {
+    cipher: "lea-128",
+    order: "2",
+    iv: "101112131415161718191a1b1c1d1e1f",
+    keys: "0f1e2d3c4b5a69788796a5b4c3d2e1f0\n00112233445566778899aabbccddeeff\n\
+           00112233445566778899aabbccddeeff\n",
+    zeros: 16,
+    piece: 16,
+    tape: 3_986,
+    ..EIGHT
+};
+
+const LEA_192: Given = Given {
+    cipher: "lea-192",
+    order: "1",
+    iv: "202122232425262728292a2b2c2d2e2f",
+    keys: "0f1e2d3c4b5a69788796a5b4c3d2e1f0f0e1d2c3b4a59687\n\
+           000000000000000000000000000000000000000000000000\n",
+    tape: 1_985,
+    ..LEA_128
+};
+
+const LEA_256: Given = Given {
+    cipher: "lea-256",
+    iv: "303132333435363738393a3b3c3d3e3f",
+    keys: "0f1e2d3c4b5a69788796a5b4c3d2e1f0f0e1d2c3b4a5968778695a4b3c2d1e0f\n\
+           0000000000000000000000000000000000000000000000000000000000000000\n",
+    tape: 2_264,
+    ..LEA_192
+};
+
+const BY_LEA_128: [u8; 16] = [
+    0x9f, 0xc8, 0x4e, 0x35, 0x28, 0xc6, 0xc6, 0x18, 0x55, 0x32, 0xc7, 0xa7, 0x04, 0x64, 0x8b, 0xfd,
+];
+
+const BY_LEA_192: [u8; 16] = [
+    0x6f, 0xb9, 0x5e, 0x32, 0x5a, 0xad, 0x1b, 0x87, 0x8c, 0xdc, 0xf5, 0x35, 0x76, 0x74, 0xc6, 0xf2,
+];
+
+const BY_LEA_256: [u8; 16] = [
+    0xd6, 0x51, 0xaf, 0xf6, 0x47, 0xb1, 0x89, 0xc1, 0x3a, 0x89, 0x00, 0xca, 0x27, 0xf9, 0xe1, 0x97,
+];
+
 const FIRST: [u8; 8] = [0x55, 0x79, 0xc1, 0x38, 0x7b, 0x22, 0x84, 0x45];
 
 const WRAPS: [u8; 16] = [
@@ -69,14 +117,22 @@ fn numbers(alloc: Global, number: Option<u32>) -> Result<Vec<u32>, AllocError> {
 }
 
 fn encrypt(alloc: Global, given: &Given) -> Result<Outcome, AllocError> {
-    let words = ["-", SEED, "enc", "present-80", given.order, given.iv];
+    encrypt_message(alloc, given, vec![in alloc; 0u8; given.zeros]?)
+}
+
+// The same on this message.
+fn encrypt_message(
+    alloc: Global,
+    given: &Given,
+    message: Vec<u8>,
+) -> Result<Outcome, AllocError> {
+    let words = ["-", SEED, "enc", given.cipher, given.order, given.iv];
     let keys = Vec::from_slice(alloc, given.keys.as_bytes())?;
-    let zeros = vec![in alloc; 0u8; given.zeros]?;
     let bytes = vec![in alloc; 0xa5u8; given.tape]?;
     let mut keys = MemSource::new(keys, 7, Vec::new(alloc));
     // No piece is empty.
     let piece = given.piece.max(1);
-    let mut input = MemSource::new(zeros, piece, numbers(alloc, given.failing_read)?);
+    let mut input = MemSource::new(message, piece, numbers(alloc, given.failing_read)?);
     let mut tape = MemEntropy::new(bytes, numbers(alloc, given.failing_fill)?);
     let failing_write = numbers(alloc, given.failing_write)?;
     let mut out = MemSink::new(alloc, given.room, piece, failing_write)?;
@@ -95,12 +151,21 @@ fn encrypts_zeros(rt: HostRuntime) -> Result<(), Fail> {
         tape: 0,
         ..EIGHT
     };
-    let cases: [(&str, Given, &[u8], usize); 5] = [
+    let nothing_by_lea = Given {
+        zeros: 0,
+        tape: 0,
+        ..LEA_256
+    };
+    let cases: [(&str, Given, &[u8], usize); 9] = [
         ("eight", EIGHT, &FIRST, 1),
         ("at the highest order", HIGHEST, &FIRST, 1),
         ("two blocks", WRAPPED, &WRAPS, 2),
         ("nine", nine, &WRAPS[..9], 2),
         ("nothing", nothing, &[], 0),
+        ("by LEA", LEA_128, &BY_LEA_128, 1),
+        ("by LEA with 192 bits", LEA_192, &BY_LEA_192, 1),
+        ("by LEA with 256 bits", LEA_256, &BY_LEA_256, 1),
+        ("nothing by LEA", nothing_by_lea, &[], 0),
     ];
     for (name, given, written, calls) in cases {
         let outcome = encrypt(rt.alloc(), &given)?;
@@ -240,6 +305,43 @@ fn tells_faults(rt: HostRuntime) -> Result<(), Fail> {
             written == 0 || outcome.written.starts_with(&FIRST),
             "{name}"
         );
+    }
+    Ok(())
+}
+
+// Encrypting twice gives the message again: 63 blocks, which take 63 * (2 * 128 + 3 * 10544) random bits.
+#[test]
+fn encrypts_a_note_twice(rt: HostRuntime) -> Result<(), Fail> {
+    let given = Given {
+        zeros: 1_000,
+        piece: 300,
+        tape: 251_118,
+        ..LEA_128
+    };
+    let once = encrypt(rt.alloc(), &given)?;
+    assert_eq!(rt; once.status, Status::Done);
+    assert!(rt; once.written.starts_with(&BY_LEA_128));
+    assert_eq!(rt; once.watch.len(), 63);
+    let twice = encrypt_message(rt.alloc(), &given, once.written)?;
+    assert_eq!(rt; twice.status, Status::Done);
+    let zeros = vec![in rt.alloc(); 0u8; 1_000]?;
+    assert_eq!(rt; twice.written.as_slice(), zeros.as_slice());
+    Ok(())
+}
+
+#[test]
+fn wants_keys_of_its_cipher(rt: HostRuntime) -> Result<(), Fail> {
+    for (keys, reason) in [
+        (
+            "0f1e2d3c4b5a69788796a5b4c3d2e1f0\n00112233445566778899aabbccddeeff\n",
+            KeyReason::Count { found: 2 },
+        ),
+        ("0f1e2d3\n", KeyReason::Line { line: 1 }),
+        ("", KeyReason::Count { found: 0 }),
+    ] {
+        let outcome = encrypt(rt.alloc(), &Given { keys, ..LEA_128 })?;
+        assert_eq!(rt; outcome.status, Status::BadKeys(reason));
+        assert!(rt; outcome.written.is_empty());
     }
     Ok(())
 }
