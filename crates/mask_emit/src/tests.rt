@@ -60,6 +60,9 @@ fn writes_the_circuit_of_lea(rt: HostRuntime) -> Result<(), Fail> {
     let mut out = MemSink::new(rt.alloc(), 46, 500, Vec::new(rt.alloc()))?;
     let status = try_emit(rt.alloc(), Named::Lea192, &mut out);
     assert_eq!(rt; status, Status::WriteFault);
-    assert_eq!(rt; out.bytes(), b"masked-circuit 1\ninputs 448\nzero\none\nxor 0 449".as_slice());
+    assert_eq!(rt;
+        out.bytes(),
+        b"masked-circuit 1\ninputs 448\nzero\none\nxor 0 449".as_slice()
+    );
     Ok(())
 }
