@@ -1,5 +1,6 @@
--- What tasks of LEA write, and what they draw, computed. The ciphertexts are published (Hong and others, WISA 2013).
-use Rattle.std.proofs.Common.{◌≡◌, ℕ, ◌-◌, ◌^◌, List, ◌++◌, [], ◌∷◌, drop, replicate, refl}
+-- What tasks of LEA write, and what they draw, computed. The ciphertexts of one block are published (Hong and others, WISA
+-- 2013); that of two is of a program that shares nothing with these definitions.
+use Rattle.std.proofs.Common.{◌≡◌, ℕ, ◌-◌, ◌^◌, List, ◌++◌, [], ◌∷◌, replicate, refl}
 use Rattle.mask_tasks.specs.declared.sizes.LeaSize.TheVariants.{K128, K192, K256}
 use Rattle.mask_tasks.specs.declared.tasks.Task.TheVariants.{Lea}
 use Rattle.mask_lea.specs.Lea.{deltas, delta, place, in_turn, word_updated, key_updated, round_key, mixed, block_mixed, round, lea_words, words_of, joined, lea}
@@ -35,7 +36,8 @@ unfolding output ciphertext_from keystream lea lea_words in_turn round block_mix
 lea_256 = refl
 
 -- the greatest counter is followed by 0, and the last block is short
-lea_wraps : drop 16 (output (Lea K128 (2 ^ 128 - 1)) key_128 (replicate 17 0)) ≡ output (Lea K128 0) key_128 (0 ∷ [])
+lea_wraps : output (Lea K128 (2 ^ 128 - 1)) key_128 (replicate 17 0)
+    ≡ 0x77 ∷ 0x86 ∷ 0x8e ∷ 0xf1 ∷ 0xc9 ∷ 0x13 ∷ 0x4d ∷ 0x93 ∷ 0x52 ∷ 0x1c ∷ 0x27 ∷ 0x60 ∷ 0x20 ∷ 0x91 ∷ 0xea ∷ 0x04 ∷ 0x48 ∷ []
 unfolding output ciphertext_from keystream lea lea_words in_turn round block_mixed mixed round_key key_updated word_updated place delta deltas words_of joined
 lea_wraps = refl
 
