@@ -1,7 +1,6 @@
 -- A run that breaks off behind any of its steps is private.
-use Rattle.std.proofs.Common.{◌≡◌, ℕ, zero, suc, ◌*◌, List, [], ◌∷◌, take, refl, subst}
+use Rattle.std.proofs.Common.{ℕ, zero, suc, ◌*◌, List, [], ◌∷◌, take, subst}
 use Rattle.mask_tasks.specs.declared.tasks.Task.{Task}
-use Rattle.mask_tasks.specs.declared.tasks.Task.TheVariants.{Present}
 use Rattle.mask_tasks.specs.Tasks.{key_bytes}
 use Rattle.mask_trace.specs.Steps.{Step, state_after, IsStrongPlan}
 use Rattle.mask_trace.proofs.Showing.{plans_are_runs, plans_are_private}
@@ -11,6 +10,7 @@ use Rattle.mask_modes.proofs.Plans.{steps_are_strong}
 use Rattle.mask_ciphers.specs.Tasks.{cipher_of, mode_of, plan}
 use Rattle.mask_ciphers.specs.Laws.{RunsArePrivate}
 use Rattle.mask_ciphers.proofs.Enciphering.{tasks_encipher}
+use Rattle.mask_ciphers.proofs.KeyBits.{key_in_bytes}
 
 -- a beginning of a strong plan is a strong plan
 IsStrongPlan-take : (k s count : ℕ) (steps : List Step) → IsStrongPlan k s steps → IsStrongPlan k s (take count steps)
@@ -18,9 +18,6 @@ IsStrongPlan-take k s zero steps strong = tt
 IsStrongPlan-take k s (suc count) [] strong = tt
 IsStrongPlan-take k s (suc count) (step ∷ steps) strong =
     (strong.0, IsStrongPlan-take k (state_after step.keeps step.circuit s) count steps strong.1)
-
-key_in_bytes : (task : Task) → (mode_of task).key ≡ 8 * key_bytes task
-key_in_bytes (Present size iv) = refl
 
 plan_is_strong : (task : Task) (message : List ℕ) → IsStrongPlan (8 * key_bytes task) 0 (plan task message)
 plan_is_strong task message =

@@ -1,9 +1,9 @@
 -- Key lines are shares of the bits of the key that they join to.
-use Rattle.std.proofs.Common.{◌≡◌, ℕ, ◌+◌, ◌-◌, ◌*◌, ◌/◌, ◌%◌, ◌<◌, Bool, false, nat_eq, List, [], ◌∷◌, map, fold, length, get_or, bit_xor, All, refl, sym, ap, ap₂, ◌∙◌, arith}
+use Rattle.std.proofs.Common.{◌≡◌, ℕ, ◌*◌, ◌<◌, Bool, false, nat_eq, List, [], ◌∷◌, map, fold, length, get_or, bit_xor, All, refl, sym, ap, ap₂, ◌∙◌, arith}
 use Rattle.std.proofs.lemmas.List.{length-map, get_or-map, ext_get_or}
 use Rattle.std.proofs.lemmas.List.Elements.{All-nil, All-head, All-tail}
 use Rattle.std.proofs.lemmas.Nat.Bits.{bit_at-zero}
-use Rattle.mask_bits.specs.Reading.{bit, high}
+use Rattle.mask_bits.specs.Reading.{bit}
 use Rattle.mask_circuit.specs.Ring.{bits}
 use Rattle.mask_circuit.specs.Sharing.{unmasked}
 use Rattle.mask_circuit.specs.Value.{xor}
@@ -11,44 +11,15 @@ use Rattle.mask_circuit.specs.Wires.{each}
 use Rattle.mask_circuit.proofs.Places.{length-each}
 use Rattle.mask_shares.proofs.Lists.{get_or-each}
 use Rattle.mask_tasks.specs.declared.tasks.Task.{Task}
-use Rattle.mask_tasks.specs.declared.tasks.Task.TheVariants.{Present}
 use Rattle.mask_tasks.specs.Tasks.{key_bytes}
 use Rattle.mask_keys.specs.Lines.{line_length, joined}
 use Rattle.mask_keys.proofs.Joining.{bit-fold}
 use Rattle.mask_trace.specs.Traces.{BitShares}
 use Rattle.mask_modes.specs.Outputs.{HasKey, key_of}
 use Rattle.mask_laws.proofs.CircuitNames.{All-each}
-use Rattle.mask_modes.proofs.Readings.{bytes_are_read}
 use Rattle.mask_ciphers.specs.Tasks.{mode_of, key_bits, key_shares, with_lines}
 use Rattle.mask_ciphers.specs.Laws.{LinesShareKeys}
-
--- READINGS
-
--- Place j in this reading of n bytes has a bit of one byte.
-record IsBitOfByte (reading : List ℕ → List Bool) (n j : ℕ) : Type 0 where
-  byte : ℕ
-  place : ℕ
-  within : byte < n
-  is : (line : List ℕ) → length line ≡ n → get_or (reading line) j false ≡ bit place (get_or line byte 0)
-
--- a reading that has eight bits for each byte
-record ReadsBits (reading : List ℕ → List Bool) : Type 0 where
-  count : (line : List ℕ) → length (reading line) ≡ 8 * length line
-  place : (n j : ℕ) → j < 8 * n → IsBitOfByte reading n j
-
-high_reads_bits : ReadsBits high
-high_reads_bits = record {
-  count = bytes_are_read.high_first.count;
-  place = λ n j lt. record {
-    byte = n - 1 - j / 8;
-    place = j % 8;
-    within = omega arith;
-    is = λ line long.
-        let at : 8 * (length line - 1 - (n - 1 - j / 8)) + j % 8 ≡ j = omega arith in
-        ap (λ (i : ℕ). get_or (high line) i false) (sym at)
-        ∙ bytes_are_read.high_place line (n - 1 - j / 8) (j % 8) (omega arith) (omega arith);
-  };
-}
+use Rattle.mask_ciphers.proofs.KeyBits.{IsBitOfByte, ReadsBits, key_reads_bits, key_in_bytes}
 
 -- ONE BIT
 
@@ -103,18 +74,18 @@ shares_of_bits reading reads lines n equal long =
 
 lines_have_key : (task : Task) (lines : List (List ℕ)) → HasKey (length lines) (mode_of task) (with_lines task lines)
 unfolding key_shares
-lines_have_key (Present size iv) lines = record {
-  key = length-each (row high lines) (8 * key_bytes (Present size iv));
+lines_have_key task lines = record {
+  key = length-each (row (key_bits task) lines) (8 * key_bytes task) ∙ sym (key_in_bytes task);
   state = refl;
-  key_shares = All-each (λ shares. length shares ≡ length lines) (row high lines) (8 * key_bytes (Present size iv))
-      (λ j lt. length-map lines (λ (line : List ℕ). get_or (high line) j false));
+  key_shares = All-each (λ shares. length shares ≡ length lines) (row (key_bits task) lines) (8 * key_bytes task)
+      (λ j lt. length-map lines (λ (line : List ℕ). get_or (key_bits task line) j false));
   state_shares = All-nil (λ (shares : BitShares). length shares ≡ length lines);
 }
 
 lines_join : (task : Task) (lines : List (List ℕ)) → All (λ line. length line ≡ line_length lines) lines → line_length lines ≡ key_bytes task →
     key_of (with_lines task lines) ≡ key_bits task (joined lines)
 unfolding key_shares
-lines_join (Present size iv) lines equal long = shares_of_bits high high_reads_bits lines (key_bytes (Present size iv)) equal long
+lines_join task lines equal long = shares_of_bits (key_bits task) (key_reads_bits task) lines (key_bytes task) equal long
 
 pub lines_share_keys : LinesShareKeys
 lines_share_keys = record {

@@ -1,14 +1,14 @@
 -- What a task writes is a ciphertext in counter mode.
 use Rattle.std.proofs.Common.{◌≡◌, ℕ, ◌*◌, List, length, take, refl, sym, ap, ◌∙◌}
 use Rattle.mask_tasks.specs.declared.tasks.Task.{Task}
-use Rattle.mask_tasks.specs.declared.tasks.Task.TheVariants.{Present}
+use Rattle.mask_tasks.specs.declared.tasks.Task.TheVariants.{Present, Lea}
 use Rattle.mask_tasks.specs.Tasks.{key_bytes}
 use Rattle.mask_modes.specs.CounterMode.{MakesBlocks, ciphertext_from}
 use Rattle.mask_modes.proofs.Keystreams.{ciphertext_fits}
-use Rattle.mask_modes.proofs.Readings.{bytes_are_read}
 use Rattle.mask_ciphers.specs.Tasks.{cipher_of, mode_of, key_bits, output}
 use Rattle.mask_ciphers.specs.Laws.{OutputsAreCiphertexts}
 use Rattle.mask_ciphers.proofs.Enciphering.{tasks_encipher}
+use Rattle.mask_ciphers.proofs.KeyBits.{key_reads_bits, key_in_bytes}
 
 -- the cipher of the task under the bits of this key
 abbrev keyed : Task → List ℕ → List ℕ → List ℕ
@@ -21,10 +21,11 @@ ciphertext task key message = ciphertext_from (mode_of task).block (mode_of task
 output_is : (task : Task) (key message : List ℕ) → output task key message ≡ ciphertext task key message
 unfolding output
 output_is (Present size iv) key message = refl
+output_is (Lea size iv) key message = refl
 
 -- a key has the bits that the mode takes
 length-key_bits : (task : Task) (key : List ℕ) → length key ≡ key_bytes task → length (key_bits task key) ≡ (mode_of task).key
-length-key_bits (Present size iv) key long = bytes_are_read.high_first.count key ∙ ap (λ (n : ℕ). 8 * n) long
+length-key_bits task key long = (key_reads_bits task).count key ∙ ap (λ (n : ℕ). 8 * n) long ∙ sym (key_in_bytes task)
 
 makes_blocks : (task : Task) (key : List ℕ) → length key ≡ key_bytes task → MakesBlocks (mode_of task).block (mode_of task).iv (keyed task key)
 makes_blocks task key long = ciphertext_fits.blocks (mode_of task) (cipher_of task) (key_bits task key) (tasks_encipher task) (length-key_bits task key long)

@@ -1,36 +1,46 @@
 -- The tasks: what each makes of a key and a message, by the standard of its cipher, and the steps that compute it.
 use Rattle.std.specs.Prelude.{ℕ, ◌*◌, Bool, false, List, [], map, slice_index_or}
-use Rattle.mask_bits.specs.Reading.{high, number}
+use Rattle.mask_bits.specs.Reading.{low, high, number}
 use Rattle.mask_circuit.specs.Wires.{each}
 use Rattle.mask_tasks.specs.declared.sizes.KeySize.{KeySize}
+use Rattle.mask_tasks.specs.declared.sizes.LeaSize.{LeaSize}
 use Rattle.mask_tasks.specs.declared.tasks.Task.{Task}
-use Rattle.mask_tasks.specs.declared.tasks.Task.TheVariants.{Present}
-use Rattle.mask_tasks.specs.Sizes.{present_bytes}
+use Rattle.mask_tasks.specs.declared.tasks.Task.TheVariants.{Present, Lea}
+use Rattle.mask_tasks.specs.Sizes.{present_bytes, lea_bytes}
 use Rattle.mask_tasks.specs.Tasks.{key_bytes}
 use Rattle.mask_present.specs.Present.{present}
 use Rattle.mask_present.specs.NamedPresent.{named_present}
+use Rattle.mask_lea.specs.Lea.{lea}
+use Rattle.mask_lea.specs.NamedLea.{named_lea}
 use Rattle.mask_refresh.specs.Refreshing.{refreshing}
 use Rattle.mask_trace.specs.Steps.{Registers, Step}
 use Rattle.mask_trace.specs.Traces.{BitShares}
 use Rattle.mask_modes.specs.CounterMode.{counter_mode}
-use Rattle.mask_modes.specs.Steps.{Mode, Cipher, on_numbers, steps_of}
+use Rattle.mask_modes.specs.Steps.{Mode, Cipher, on_numbers, on_little_numbers, steps_of}
 
 -- PRESENT on blocks of eight bytes: big-endian numbers (ISO/IEC 29192-2)
 abbrev pub present_cipher : KeySize → Cipher
 present_cipher size = on_numbers 8 (λ key. present size (number key))
 
+-- LEA on blocks of sixteen bytes: little-endian numbers (ISO/IEC 29192-2)
+abbrev pub lea_cipher : LeaSize → Cipher
+lea_cipher size = on_little_numbers 16 (λ key. lea size (number key))
+
 -- the cipher of a task, under the bits of a key
 abbrev pub cipher_of : Task → Cipher
 cipher_of (Present size iv) = present_cipher size
+cipher_of (Lea size iv) = lea_cipher size
 
 -- the bits of a key, as the cipher reads its bytes
 abbrev pub key_bits : Task → List ℕ → List Bool
 key_bits (Present size iv) key = high key
+key_bits (Lea size iv) key = low key
 
 -- What is written of a message under a key: with a cipher its ciphertext in counter mode (ISO/IEC 10116), where the first
 -- counter is the IV.
 unfoldable pub output : Task → List ℕ → List ℕ → List ℕ
 output (Present size iv) key message = counter_mode 8 iv (present_cipher size (high key)) message
+output (Lea size iv) key message = counter_mode 16 iv (lea_cipher size (low key)) message
 
 -- how the circuits of PRESENT are used
 abbrev pub present_mode : KeySize → ℕ → Mode
@@ -43,8 +53,20 @@ present_mode size iv = record {
   iv = iv;
 }
 
+-- and those of LEA
+abbrev pub lea_mode : LeaSize → ℕ → Mode
+lea_mode size iv = record {
+  circuit = named_lea size;
+  refresh = refreshing (8 * lea_bytes size);
+  key = 8 * lea_bytes size;
+  block = 16;
+  reading = low;
+  iv = iv;
+}
+
 abbrev pub mode_of : Task → Mode
 mode_of (Present size iv) = present_mode size iv
+mode_of (Lea size iv) = lea_mode size iv
 
 -- the steps of a run on a message
 abbrev pub plan : Task → List ℕ → List Step

@@ -1,7 +1,7 @@
 -- Counter mode computed at worked examples.
 use Rattle.std.specs.Prelude.{◌≡◌, ℕ, ◌+◌, ◌%◌, List, [], ◌∷◌, map, refl}
 use Rattle.mask_modes.specs.CounterMode.{bytes_of, counter, counter_mode, ciphertext_from, keystream}
-use Rattle.mask_modes.specs.Steps.{blocks}
+use Rattle.mask_modes.specs.Steps.{blocks, on_numbers, on_little_numbers}
 
 -- a cipher on blocks of two bytes that adds one to each
 abbrev raised : List ℕ → List ℕ
@@ -26,3 +26,10 @@ filled_up = refl
 
 no_blocks : blocks 2 [] ≡ []
 no_blocks = refl
+
+-- one is added to a block as a number, from either end
+big_endian_blocks : on_numbers 2 (λ key n. n + 1) [] (1 ∷ 255 ∷ []) ≡ 2 ∷ 0 ∷ []
+big_endian_blocks = refl
+
+little_endian_blocks : on_little_numbers 2 (λ key n. n + 1) [] (255 ∷ 1 ∷ []) ≡ 0 ∷ 2 ∷ []
+little_endian_blocks = refl

@@ -1,19 +1,20 @@
--- Blocks as big-endian numbers: their XOR, and ciphers on numbers.
-use Rattle.std.proofs.Common.{◌≡◌, ℕ, ◌+◌, ◌*◌, ◌%◌, ◌^◌, ◌<◌, Bool, List, [], ◌∷◌, ◌++◌, length, bit_xor, refl, ap, ap₂, sym, subst, ◌∙◌, arith, fold}
+-- Blocks as numbers: their XOR, and ciphers on numbers.
+use Rattle.std.proofs.Common.{◌≡◌, ℕ, ◌+◌, ◌*◌, ◌%◌, ◌^◌, ◌<◌, Bool, List, [], ◌∷◌, ◌++◌, length, reverse, bit_xor, refl, ap, ap₂, sym, subst, ◌∙◌, arith, fold}
 use Rattle.std.proofs.Math.Nat.{mod-mod}
 use Rattle.std.proofs.lemmas.Nat.{xor_block, xor_mod, xor_comm}
+use Rattle.std.proofs.lemmas.List.{length-reverse, reverse-reverse}
 use Rattle.std.proofs.lemmas.List.Elements.{All-tail}
-use Rattle.mask_bits.specs.Reading.{lowest, high, big_endian, AreBytes}
+use Rattle.mask_bits.specs.Reading.{lowest, low, high, big_endian, AreBytes}
 use Rattle.mask_circuit.specs.Value.{plain}
 use Rattle.mask_circuit.proofs.Places.{length-each}
 use Rattle.mask_modes.specs.CounterMode.{bytes_of, xor_bytes}
 use Rattle.mask_modes.specs.Readings.{IsReading}
-use Rattle.mask_modes.specs.Steps.{on_numbers}
+use Rattle.mask_modes.specs.Steps.{Mode, EnciphersNumbers, IsBlock, on_numbers, on_little_numbers}
 use Rattle.mask_modes.specs.Laws.{NumbersAreBlocks}
 use Rattle.mask_modes.proofs.Blocks.{xor_bytes_are_bytes}
 use Rattle.mask_modes.proofs.Keystreams.{bytes_of_are_bytes}
-use Rattle.mask_modes.proofs.Readings.{bytes_are_read, lowest-mod, number_of_high, high_is, big_endian-bytes_of}
-use Rattle.mask_modes.proofs.Xors.{length-xor_bytes}
+use Rattle.mask_modes.proofs.Readings.{bytes_are_read, lowest-mod, number_of_high, high_is, big_endian-bytes_of, AreBytes-reverse}
+use Rattle.mask_modes.proofs.Xors.{length-xor_bytes, xor_bytes-reverse}
 
 -- the number of bytes behind a number
 abbrev number_from : ℕ → List ℕ → ℕ
@@ -56,17 +57,55 @@ high-xor n x block size are =
     ∙ lowest-xor (8 * n) (big_endian block) x
     ∙ ap (lowest (8 * n)) (xor_comm (big_endian block) x)
 
-pub numbers_are_blocks : NumbersAreBlocks
-numbers_are_blocks m encrypt is = record {
-  circuits = is.circuits;
-  reads = subst IsReading (sym is.reads) bytes_are_read.high_first;
-  is_block = λ key counter size block_is. (length-each _ m.block, bytes_of_are_bytes m.block (encrypt key (big_endian counter)));
-  value = λ key counter block size counter_is block_is.
+-- the low-first reading is the high-first one of the bytes the other way round
+low_is_high : (bytes : List ℕ) → low bytes ≡ high (reverse bytes)
+low_is_high bytes = ap low (sym (reverse-reverse bytes))
+
+turned_is_block : (m : Mode) (bytes : List ℕ) → IsBlock m bytes → IsBlock m (reverse bytes)
+turned_is_block m bytes (size, are) = (length-reverse bytes ∙ size, AreBytes-reverse bytes are)
+
+numbers_make_blocks : (m : Mode) (encrypt : List Bool → ℕ → ℕ) (key : List Bool) (counter : List ℕ) → IsBlock m (on_numbers m.block encrypt key counter)
+numbers_make_blocks m encrypt key counter = (length-each _ m.block, bytes_of_are_bytes m.block (encrypt key (big_endian counter)))
+
+module _ (reading : List ℕ → List Bool) (encrypt : List Bool → ℕ → ℕ) (m : Mode) (is : EnciphersNumbers reading encrypt m) where
+  -- the circuit on bytes that are read high first
+  value_high : (key : List Bool) (counter block : List ℕ) → length key ≡ m.key → IsBlock m counter → IsBlock m block →
+      plain m.circuit (key ++ (high counter ++ high block)) ≡ high (xor_bytes block (on_numbers m.block encrypt key counter))
+  value_high key counter block size counter_is block_is =
       let bits : (bytes : List ℕ) → length bytes ≡ m.block → length (high bytes) ≡ 8 * m.block
       = λ bytes e. bytes_are_read.high_first.count bytes ∙ ap (λ (n : ℕ). 8 * n) e in
-      ap (λ (reading : List ℕ → List Bool). plain m.circuit (key ++ (reading counter ++ reading block))) is.reads
-      ∙ is.value key (high counter) (high block) size (bits counter counter_is.0) (bits block block_is.0)
+      is.value key (high counter) (high block) size (bits counter counter_is.0) (bits block block_is.0)
       ∙ ap₂ (λ (c b : ℕ). lowest (8 * m.block) (bit_xor (encrypt key c) b)) (number_of_high counter counter_is.1) (number_of_high block block_is.1)
       ∙ sym (high-xor m.block (encrypt key (big_endian counter)) block block_is.0 block_is.1)
-      ∙ ap (λ (reading : List ℕ → List Bool). reading (xor_bytes block (on_numbers m.block encrypt key counter))) (sym is.reads);
+
+  -- and read low first
+  value_low : (key : List Bool) (counter block : List ℕ) → length key ≡ m.key → IsBlock m counter → IsBlock m block →
+      plain m.circuit (key ++ (low counter ++ low block)) ≡ low (xor_bytes block (on_little_numbers m.block encrypt key counter))
+  value_low key counter block size counter_is block_is =
+      let made = on_numbers m.block encrypt key (reverse counter) in
+      let same : length (reverse block) ≡ length made
+      = length-reverse block ∙ block_is.0 ∙ sym (numbers_make_blocks m encrypt key (reverse counter)).0 in
+      ap₂ (λ (c b : List Bool). plain m.circuit (key ++ (c ++ b))) (low_is_high counter) (low_is_high block)
+      ∙ value_high key (reverse counter) (reverse block) size (turned_is_block m counter counter_is) (turned_is_block m block block_is)
+      ∙ ap low (sym (xor_bytes-reverse (reverse block) made same) ∙ ap (λ bytes. xor_bytes bytes (reverse made)) (reverse-reverse block))
+
+pub numbers_are_blocks : NumbersAreBlocks
+numbers_are_blocks = record {
+  high_first = λ m encrypt is. record {
+    circuits = is.circuits;
+    reads = subst IsReading (sym is.reads) bytes_are_read.high_first;
+    is_block = λ key counter size block_is. numbers_make_blocks m encrypt key counter;
+    value = λ key counter block size counter_is block_is.
+        subst (λ (reading : List ℕ → List Bool). plain m.circuit (key ++ (reading counter ++ reading block)) ≡ reading (xor_bytes block (on_numbers m.block encrypt key counter)))
+        (sym is.reads) (value_high high encrypt m is key counter block size counter_is block_is);
+  };
+  low_first = λ m encrypt is. record {
+    circuits = is.circuits;
+    reads = subst IsReading (sym is.reads) bytes_are_read.low_first;
+    is_block = λ key counter size block_is.
+        turned_is_block m (on_numbers m.block encrypt key (reverse counter)) (numbers_make_blocks m encrypt key (reverse counter));
+    value = λ key counter block size counter_is block_is.
+        subst (λ (reading : List ℕ → List Bool). plain m.circuit (key ++ (reading counter ++ reading block)) ≡ reading (xor_bytes block (on_little_numbers m.block encrypt key counter)))
+        (sym is.reads) (value_low low encrypt m is key counter block size counter_is block_is);
+  };
 }

@@ -31,7 +31,7 @@ low_one_to_one (x ∷ xs) (y ∷ ys) small small' same =
     ap₂ (λ (z : ℕ) (zs : List ℕ). z ∷ zs) (byte_is x y (small 0 0 (omega arith)) (small' 0 0 (omega arith)) front)
     (low_one_to_one xs ys (All-tail (λ byte. byte < 2 ^ 8) x xs small) (All-tail (λ byte. byte < 2 ^ 8) y ys small') back)
 
-AreBytes-reverse : (xs : List ℕ) → AreBytes xs → AreBytes (reverse xs)
+pub AreBytes-reverse : (xs : List ℕ) → AreBytes xs → AreBytes (reverse xs)
 AreBytes-reverse xs small k d lt =
     let within : k < length xs = omega (arith, length-reverse xs) in
     subst (λ (byte : ℕ). byte < 2 ^ 8) (sym (get_or-reverse xs k d within)) (small (length xs - 1 - k) d (omega arith))

@@ -1,5 +1,6 @@
 -- The XOR of bytes place by place.
-use Rattle.std.proofs.Common.{◌≡◌, ℕ, zero, suc, ◌≤◌, List, [], ◌∷◌, ◌++◌, length, take, bit_xor, refl, ap, ap₂, ◌∙◌, arith}
+use Rattle.std.proofs.Common.{◌≡◌, ℕ, zero, suc, ◌≤◌, List, [], ◌∷◌, ◌++◌, length, take, reverse, bit_xor, refl, ap, ap₂, sym, ◌∙◌, arith}
+use Rattle.std.proofs.lemmas.List.{length-reverse, reverse-append}
 use Rattle.std.specs.Int.Bits.{xor_assoc, xor_self, xor_zero_r}
 use Rattle.mask_modes.specs.CounterMode.{xor_bytes}
 
@@ -32,3 +33,15 @@ xor_bytes_twice [] ys le = refl
 xor_bytes_twice (x ∷ xs) [] le = absurd (omega arith)
 xor_bytes_twice (x ∷ xs) (y ∷ ys) le =
     ap₂ (λ b l. b ∷ l) (xor_assoc x y y ∙ ap (bit_xor x) (xor_self y) ∙ xor_zero_r x) (xor_bytes_twice xs ys (omega arith))
+
+-- from the last byte on
+pub xor_bytes-reverse : (xs ys : List ℕ) → length xs ≡ length ys → xor_bytes (reverse xs) (reverse ys) ≡ reverse (xor_bytes xs ys)
+xor_bytes-reverse [] [] e = refl
+xor_bytes-reverse [] (y ∷ ys) e = absurd (omega arith)
+xor_bytes-reverse (x ∷ xs) [] e = absurd (omega arith)
+xor_bytes-reverse (x ∷ xs) (y ∷ ys) e =
+    let same : length (reverse xs) ≡ length (reverse ys) = omega (arith, length-reverse xs, length-reverse ys) in
+    ap₂ xor_bytes (reverse-append (x ∷ []) xs) (reverse-append (y ∷ []) ys)
+    ∙ xor_bytes-append (reverse xs) (x ∷ []) (reverse ys) (y ∷ []) same
+    ∙ ap (λ l. l ++ bit_xor x y ∷ []) (xor_bytes-reverse xs ys (omega arith))
+    ∙ sym (reverse-append (bit_xor x y ∷ []) (xor_bytes xs ys))

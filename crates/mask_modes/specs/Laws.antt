@@ -11,7 +11,7 @@ use Rattle.mask_trace.specs.Traces.{BitShares, after, output_shares}
 use Rattle.mask_trace.specs.Privacy.{AreAlike, trace_hits}
 use Rattle.mask_trace.specs.Drawing.{Stand, Ran, RanPart}
 use Rattle.mask_modes.specs.CounterMode.{MakesBlocks, block_count, counter, ciphertext_from, xor_bytes}
-use Rattle.mask_modes.specs.Steps.{Cipher, Mode, Enciphers, EnciphersNumbers, on_numbers, IsBlock, block_at, blocks, block_step, refresh_step, steps_from, steps_of, ahead_of, block_steps, IsBatch}
+use Rattle.mask_modes.specs.Steps.{Cipher, Mode, Enciphers, EnciphersNumbers, on_numbers, on_little_numbers, IsBlock, block_at, blocks, block_step, refresh_step, steps_from, steps_of, ahead_of, block_steps, IsBatch}
 use Rattle.mask_modes.specs.Readings.{IsReading}
 use Rattle.mask_modes.specs.Outputs.{key_of, HasKey, ciphertext_block, handed_out, StandFor}
 
@@ -120,6 +120,8 @@ OutputsAreBits = (N : ℕ) (m : Mode) (cipher : Cipher) (have : Registers BitSha
     unmasked bits (slice_index_or (output_shares N have (block_step m (i + k / m.block) (block_at m.block part (k / m.block))) r) place [])
     ≡ bit p (slice_index (ciphertext_from m.block m.iv (cipher (key_of have)) i part) k)
 
--- A mode for a cipher on numbers enciphers.
-abbrev pub NumbersAreBlocks : Type 0
-NumbersAreBlocks = (m : Mode) (encrypt : List Bool → ℕ → ℕ) → EnciphersNumbers encrypt m → Enciphers (on_numbers m.block encrypt) m
+-- A mode for a cipher on numbers enciphers: where it reads high first, blocks as big-endian numbers, and where it reads low
+-- first, as little-endian ones.
+pub record NumbersAreBlocks : Type 0 where
+  pub high_first : (m : Mode) (encrypt : List Bool → ℕ → ℕ) → EnciphersNumbers high encrypt m → Enciphers (on_numbers m.block encrypt) m
+  pub low_first : (m : Mode) (encrypt : List Bool → ℕ → ℕ) → EnciphersNumbers low encrypt m → Enciphers (on_little_numbers m.block encrypt) m

@@ -1,6 +1,6 @@
 -- The steps of a run in counter mode.
-use Rattle.std.specs.Prelude.{◌≡◌, ℕ, suc, ◌+◌, ◌*◌, ◌%◌, ◌<◌, ◌≤◌, Bool, not, ◌&&◌, ◌==◌, cond, List, [], ◌∷◌, ◌++◌, map, length, take, drop, replicate, bit_xor}
-use Rattle.mask_bits.specs.Reading.{lowest, high, number, big_endian, AreBytes}
+use Rattle.std.specs.Prelude.{◌≡◌, ℕ, suc, ◌+◌, ◌*◌, ◌%◌, ◌<◌, ◌≤◌, Bool, not, ◌&&◌, ◌==◌, cond, List, [], ◌∷◌, ◌++◌, map, length, take, drop, replicate, reverse, bit_xor}
+use Rattle.mask_bits.specs.Reading.{lowest, number, big_endian, AreBytes}
 use Rattle.mask_circuit.specs.Netlist.{Netlist, IsWellFormed}
 use Rattle.mask_circuit.specs.Value.{plain}
 use Rattle.mask_circuit.specs.Wires.{each}
@@ -100,10 +100,14 @@ pub record Enciphers (cipher : Cipher) (m : Mode) : Type 0 where
 abbrev pub on_numbers : ℕ → (List Bool → ℕ → ℕ) → Cipher
 on_numbers b encrypt key block = bytes_of b (encrypt key (big_endian block))
 
--- What a mode that reads high first takes from a cipher on numbers: the circuit's outputs are the bits of the XOR of two
+-- the same where a block is a little-endian number: its bytes the other way round
+abbrev pub on_little_numbers : ℕ → (List Bool → ℕ → ℕ) → Cipher
+on_little_numbers b encrypt key block = reverse (on_numbers b encrypt key (reverse block))
+
+-- What a mode with this reading takes from a cipher on numbers: the circuit's outputs are the bits of the XOR of two
 -- numbers, the encrypted counter and the block, each lowest bit first.
-pub record EnciphersNumbers (encrypt : List Bool → ℕ → ℕ) (m : Mode) : Type 0 where
+pub record EnciphersNumbers (reading : List ℕ → List Bool) (encrypt : List Bool → ℕ → ℕ) (m : Mode) : Type 0 where
   pub circuits : CircuitsFit m
-  pub reads : m.reading ≡ high
+  pub reads : m.reading ≡ reading
   pub value : (key counter block : List Bool) → length key ≡ m.key → length counter ≡ 8 * m.block → length block ≡ 8 * m.block →
       plain m.circuit (key ++ (counter ++ block)) ≡ lowest (8 * m.block) (bit_xor (encrypt key (number counter)) (number block))

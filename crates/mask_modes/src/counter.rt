@@ -57,7 +57,7 @@ pub fn outputs_are_bits()
     ensures { OutputsAreBits }
 {}
 
-/// A mode for a cipher on numbers, such as PRESENT's, enciphers blocks of bytes.
+/// A mode for a cipher on numbers enciphers blocks of bytes, big-endian as PRESENT's or little-endian as LEA's.
 pub fn numbers_are_blocks()
     ensures { NumbersAreBlocks }
 {}
