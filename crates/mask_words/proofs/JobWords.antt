@@ -14,6 +14,7 @@ order_of-bounds w h = grind (arith, nat_tests)
 
 pub HasOrder-job_of : (f : Form) (ws : List Word) → Match (tests_of f) (tail_of f) ws → HasOrder (job_of f ws)
 HasOrder-job_of forms.EncPresent ws m = order_of-bounds (get_or ws 4 []) (Match-at (tests_of forms.EncPresent) None ws 4 m (lit< tt))
+HasOrder-job_of forms.EncLea ws m = order_of-bounds (get_or ws 4 []) (Match-at (tests_of forms.EncLea) None ws 4 m (lit< tt))
 HasOrder-job_of forms.Eval ws m = order_of-bounds (get_or ws 3 []) (Match-at (tests_of forms.Eval) None ws 3 m (lit< tt))
 HasOrder-job_of forms.Check ws m = tt
 HasOrder-job_of forms.Upgrade ws m = tt
@@ -24,6 +25,7 @@ HasOrder-job_of forms.Emit ws m = tt
 
 pub HasWords-job_of : (f : Form) (ws : List Word) → Match (tests_of f) (tail_of f) ws → HasWords ws (job_of f ws)
 HasWords-job_of forms.EncPresent ws m = tt
+HasWords-job_of forms.EncLea ws m = tt
 HasWords-job_of forms.Eval ws m = record {
   count = Match-length (tests_of forms.Eval) ws m;
   order_word = refl;

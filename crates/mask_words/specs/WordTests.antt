@@ -6,13 +6,15 @@ use Rattle.std.specs.Str.Parse.{digits_value}
 use Rattle.std.specs.Char.{is_ascii_hexdigit}
 use Rattle.mask_tasks.specs.declared.sizes.KeySize.{KeySize}
 use Rattle.mask_tasks.specs.declared.sizes.KeySize.TheVariants.{K80, K128}
+use Rattle.mask_tasks.specs.declared.sizes.LeaSize.{LeaSize}
+use Rattle.mask_tasks.specs.declared.sizes.LeaSize.TheVariants as lea
 use Rattle.mask_tasks.specs.declared.names.Named.{Named as BuiltIn}
 use Rattle.mask_tasks.specs.declared.names.TheConstants.{ALL}
 use Rattle.mask_tasks.specs.Names.{name_text}
 use Rattle.mask_words.specs.declared.word_tests.Command.{Command}
 use Rattle.mask_words.specs.declared.word_tests.Command.TheVariants.{Enc, Eval, Check, Upgrade, Probe, Split, Join, Emit}
 use Rattle.mask_words.specs.declared.word_tests.Test.{Test}
-use Rattle.mask_words.specs.declared.word_tests.Test.TheVariants.{Given, Tape, Named, Present, Order, Digits, Hex, Wire, Circuit}
+use Rattle.mask_words.specs.declared.word_tests.Test.TheVariants.{Given, Tape, Named, Present, Lea, Order, Digits, Hex, Wire, Circuit}
 
 abbrev pub Word : Type 0
 Word = List ℕ
@@ -47,6 +49,13 @@ is_tape w = if starts_with nat_eq w (codes "seed:") then are_seed_digits (drop 5
 abbrev pub present_size : Word → Option KeySize
 present_size w = if bytes_eq w (codes "present-80") then Some K80 else if bytes_eq w (codes "present-128") then Some K128 else None
 
+-- the key size of LEA that a CIPHER word names
+abbrev pub lea_size : Word → Option LeaSize
+lea_size w =
+    if bytes_eq w (codes "lea-128")
+    then Some lea.K128
+    else if bytes_eq w (codes "lea-192") then Some lea.K192 else if bytes_eq w (codes "lea-256") then Some lea.K256 else None
+
 -- one digit from `1` to `7`
 abbrev pub is_order : Word → Bool
 is_order w = length w == 1 && nat_le 49 (slice_index w 0) && nat_le (slice_index w 0) 55
@@ -77,6 +86,7 @@ passes Given w = not (length w == 0)
 passes Tape w = is_tape w
 passes (Named c) w = bytes_eq w (command_text c)
 passes Present w = is_some (present_size w)
+passes Lea w = is_some (lea_size w)
 passes Order w = is_order w
 passes (Digits n) w = are_digits n w
 passes Hex w = is_hex_text w

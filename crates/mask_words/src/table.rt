@@ -2,18 +2,20 @@
 
 ghost use Rattle.std.specs.Prelude.{◌≡◌, ℕ, ◌+◌, ◌-◌, ◌*◌, ◌<◌, ◌≤◌, List, length, IfOk, IfErr, drop, take};
 ghost use Rattle.std.specs.Prelude.{IsTrue, ◌↔◌, is_some};
-ghost use Rattle.mask_words.specs.WordTests.{is_order, are_digits, present_size, circuit_named};
-ghost use Rattle.mask_words.specs.Jobs.{tests_of, tail_of, reach, Match, order_of, size_of, iv_of, circuit_of, job_of, IsJob, IsRefused, HasOrder, HasWords, HaveOneJob, HaveOnePlace};
+ghost use Rattle.mask_words.specs.WordTests.{is_order, are_digits, present_size, lea_size, circuit_named};
+ghost use Rattle.mask_words.specs.Jobs.{tests_of, tail_of, reach, Match, order_of, present_size_of, lea_size_of, iv_of, circuit_of, job_of, IsJob, IsRefused, HasOrder, HasWords, HaveOneJob, HaveOnePlace};
 
 use crate::command_lines::Words;
-use crate::word_tests::{Command, Test, present_size};
-use mask_tasks::{KeySize, Named, Task, circuit_named};
+use crate::word_tests::{Command, Test, lea_size, present_size};
+use mask_tasks::{KeySize, LeaSize, Named, Task, circuit_named};
 
 /// A form that a command line may have: a row of the table of commands.
 #[derive(Clone, Copy, Debug, PartialEq, Eq)]
 pub enum Form {
     /// `KEYS TAPE enc CIPHER ORDER IV`, where CIPHER is PRESENT with a key size
     EncPresent,
+    /// `KEYS TAPE enc CIPHER ORDER IV`, where CIPHER is LEA with a key size
+    EncLea,
     /// `KEYS TAPE eval ORDER HEX`
     Eval,
     /// `KEYS TAPE check`
@@ -31,8 +33,9 @@ pub enum Form {
 }
 
 /// The rows of the table.
-pub const FORMS: [Form; 8] = [
+pub const FORMS: [Form; 9] = [
     Form::EncPresent,
+    Form::EncLea,
     Form::Eval,
     Form::Check,
     Form::Upgrade,
@@ -84,6 +87,14 @@ impl Form {
                 Test::Order,
                 Test::Digits(16),
             ],
+            Form::EncLea => &[
+                Test::Given,
+                Test::Tape,
+                Test::Named(Command::Enc),
+                Test::Lea,
+                Test::Order,
+                Test::Digits(32),
+            ],
             Form::Eval => &[
                 Test::Given,
                 Test::Tape,
@@ -127,6 +138,7 @@ impl Form {
         match self {
             Form::Probe => Some(Test::Wire),
             Form::EncPresent
+            | Form::EncLea
             | Form::Eval
             | Form::Check
             | Form::Upgrade
@@ -194,8 +206,15 @@ fn job_of(form: Form, words: &Words) -> Job
     match form {
         Form::EncPresent => Job::Enc {
             task: Task::Present {
-                size: size_of(words.word(3)),
-                iv: iv_of(words.word(5)),
+                size: present_size_of(words.word(3)),
+                iv: present_iv_of(words.word(5)),
+            },
+            order: order_of(words.word(4)),
+        },
+        Form::EncLea => Job::Enc {
+            task: Task::Lea {
+                size: lea_size_of(words.word(3)),
+                iv: lea_iv_of(words.word(5)),
             },
             order: order_of(words.word(4)),
         },
@@ -226,18 +245,32 @@ fn order_of(word: &str) -> u32
     u32::from(word.as_bytes()[0] - b'0')
 }
 
-fn size_of(word: &str) -> KeySize
+fn present_size_of(word: &str) -> KeySize
     requires { IsTrue (is_some (present_size word.now)) }
-    ensures { result ≡ size_of word.now }
+    ensures { result ≡ present_size_of word.now }
 {
     present_size(word).unwrap()
 }
 
-fn iv_of(word: &str) -> u64
+fn present_iv_of(word: &str) -> u64
     requires { IsTrue (are_digits 16 word.now) }
     ensures { result ≡ iv_of word.now }
 {
     u64::from_str_radix(word, 16).unwrap()
+}
+
+fn lea_size_of(word: &str) -> LeaSize
+    requires { IsTrue (is_some (lea_size word.now)) }
+    ensures { result ≡ lea_size_of word.now }
+{
+    lea_size(word).unwrap()
+}
+
+fn lea_iv_of(word: &str) -> u128
+    requires { IsTrue (are_digits 32 word.now) }
+    ensures { result ≡ iv_of word.now }
+{
+    u128::from_str_radix(word, 16).unwrap()
 }
 
 fn circuit_of(word: &str) -> Named

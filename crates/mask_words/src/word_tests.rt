@@ -2,10 +2,10 @@
 
 ghost use Rattle.std.specs.Prelude.{◌≡◌, ℕ, ◌<◌, List, length};
 ghost use Rattle.std.specs.Prelude.{codes, IsTrue};
-ghost use Rattle.mask_words.specs.WordTests.{passes, command_text, are_hex_digits, are_digits, are_seed_digits, present_size, is_hex_text, is_tape, is_order, is_number, number_of, WiresHaveOneNumber};
+ghost use Rattle.mask_words.specs.WordTests.{passes, command_text, are_hex_digits, are_digits, are_seed_digits, present_size, lea_size, is_hex_text, is_tape, is_order, is_number, number_of, WiresHaveOneNumber};
 
 use itoa::Buffer;
-use mask_tasks::{KeySize, circuit_named};
+use mask_tasks::{KeySize, LeaSize, circuit_named};
 
 /// The name of a command. Several rows of the table may have the same.
 #[derive(Clone, Copy, Debug, PartialEq, Eq)]
@@ -56,6 +56,8 @@ pub enum Test {
     Named(Command),
     /// PRESENT with a key size: `present-80` or `present-128`.
     Present,
+    /// LEA with a key size: `lea-128`, `lea-192` or `lea-256`.
+    Lea,
     /// An order: one digit, from 1 to 7.
     Order,
     /// So many hexadecimal digits, in either case.
@@ -78,6 +80,7 @@ impl Test {
             Test::Tape => is_tape(word),
             Test::Named(command) => word == command.text(),
             Test::Present => present_size(word).is_some(),
+            Test::Lea => lea_size(word).is_some(),
             Test::Order => is_order(word.as_bytes()),
             Test::Digits(count) => are_digits(count, word.as_bytes()),
             Test::Hex => is_hex_text(word),
@@ -112,6 +115,18 @@ pub(crate) fn present_size(word: &str) -> Option<KeySize>
     match word {
         "present-80" => Some(KeySize::K80),
         "present-128" => Some(KeySize::K128),
+        _ => None,
+    }
+}
+
+/// The key size of LEA that a CIPHER word names.
+pub(crate) fn lea_size(word: &str) -> Option<LeaSize>
+    ensures { result ≡ lea_size word.now }
+{
+    match word {
+        "lea-128" => Some(LeaSize::K128),
+        "lea-192" => Some(LeaSize::K192),
+        "lea-256" => Some(LeaSize::K256),
         _ => None,
     }
 }
