@@ -24,6 +24,7 @@ row_of forms.Probe = (5, lit< tt, refl)
 row_of forms.Split = (6, lit< tt, refl)
 row_of forms.Join = (7, lit< tt, refl)
 row_of forms.Emit = (8, lit< tt, refl)
+row_of forms.SelfRun = (9, lit< tt, refl)
 
 -- the words are those of the form
 abbrev pub IsForm : Form → List Word → Type 0

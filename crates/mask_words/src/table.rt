@@ -2,8 +2,8 @@
 
 ghost use Rattle.std.specs.Prelude.{◌≡◌, ℕ, ◌+◌, ◌-◌, ◌*◌, ◌<◌, ◌≤◌, List, length, IfOk, IfErr, drop, take};
 ghost use Rattle.std.specs.Prelude.{IsTrue, ◌↔◌, is_some};
-ghost use Rattle.mask_words.specs.WordTests.{is_order, are_digits, present_size, lea_size, circuit_named};
-ghost use Rattle.mask_words.specs.Jobs.{tests_of, tail_of, reach, Match, order_of, present_size_of, lea_size_of, iv_of, circuit_of, job_of, IsJob, IsRefused, HasOrder, HasWords, HaveOneJob, HaveOnePlace};
+ghost use Rattle.mask_words.specs.WordTests.{is_order, are_digits, present_size, lea_size, is_message_seed, is_count, number_of, circuit_named};
+ghost use Rattle.mask_words.specs.Jobs.{tests_of, tail_of, reach, Match, order_of, present_size_of, lea_size_of, iv_of, circuit_of, job_of, IsJob, IsRefused, HasOrder, HasCount, HasWords, HaveOneJob, HaveOnePlace};
 
 use crate::command_lines::Words;
 use crate::word_tests::{Command, Test, lea_size, present_size};
@@ -30,10 +30,12 @@ pub enum Form {
     Join,
     /// `KEYS TAPE emit CIRCUIT`
     Emit,
+    /// `KEYS TAPE self SEED COUNT ORDER`
+    SelfRun,
 }
 
 /// The rows of the table.
-pub const FORMS: [Form; 9] = [
+pub const FORMS: [Form; 10] = [
     Form::EncPresent,
     Form::EncLea,
     Form::Eval,
@@ -43,6 +45,7 @@ pub const FORMS: [Form; 9] = [
     Form::Split,
     Form::Join,
     Form::Emit,
+    Form::SelfRun,
 ];
 
 /// What the words of a command line ask for.
@@ -64,6 +67,8 @@ pub enum Job {
     Join { order: u32 },
     /// Write the text of a circuit that is built in.
     Emit { circuit: Named },
+    /// Encrypt a message that is made of a seed, at this order, 1 to 7, and report it.
+    SelfRun { seed: u64, count: u32, order: u32 },
 }
 
 /// The words are no job. No job's words begin with the first `place` words, or more words are wanted than there are.
@@ -128,6 +133,14 @@ impl Form {
                 Test::Named(Command::Emit),
                 Test::Circuit,
             ],
+            Form::SelfRun => &[
+                Test::Given,
+                Test::Tape,
+                Test::Named(Command::SelfRun),
+                Test::Seed,
+                Test::Count,
+                Test::Order,
+            ],
         }
     }
 
@@ -144,7 +157,8 @@ impl Form {
             | Form::Upgrade
             | Form::Split
             | Form::Join
-            | Form::Emit => None,
+            | Form::Emit
+            | Form::SelfRun => None,
         }
     }
 }
@@ -174,6 +188,7 @@ pub fn read_words(words: &Words) -> Result<Job, BadWords>
 
     // What a caller may rely on where it reads the words of the job again.
     ensures order { IfOk result HasOrder }
+    ensures count { IfOk result HasCount }
     ensures words { IfOk result (HasWords words.now) }
 {
     let mut farthest = 0;
@@ -235,6 +250,11 @@ fn job_of(form: Form, words: &Words) -> Job
         Form::Emit => Job::Emit {
             circuit: circuit_of(words.word(3)),
         },
+        Form::SelfRun => Job::SelfRun {
+            seed: seed_of(words.word(3)),
+            count: count_of(words.word(4)),
+            order: order_of(words.word(5)),
+        },
     }
 }
 
@@ -278,6 +298,20 @@ fn circuit_of(word: &str) -> Named
     ensures { result ≡ circuit_of word.now }
 {
     circuit_named(word).unwrap()
+}
+
+fn seed_of(word: &str) -> u64
+    requires { IsTrue (is_message_seed word.now) }
+    ensures { result ≡ number_of word.now }
+{
+    word.parse::<u64>().unwrap()
+}
+
+fn count_of(word: &str) -> u32
+    requires { IsTrue (is_count word.now) }
+    ensures { result ≡ number_of word.now }
+{
+    word.parse::<u32>().unwrap()
 }
 
 /// Words are one job at most, and are refused at one place at most. Those of a job aren't refused.

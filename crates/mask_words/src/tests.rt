@@ -302,6 +302,48 @@ fn refuses_words_at_their_place(rt: HostRuntime) -> Result<(), Fail> {
     Ok(())
 }
 
+#[test]
+fn reads_the_words_of_self(rt: HostRuntime) -> Result<(), Fail> {
+    let cases: [(&[&str], (u64, u32, u32)); 4] = [
+        (&["k", "t", "self", "1", "4096", "1"], (1, 4096, 1)),
+        (&["k", "t", "self", "0", "1", "7"], (0, 1, 7)),
+        (
+            &["k", "t", "self", "18446744073709551615", "1", "2"],
+            (18_446_744_073_709_551_615, 1, 2),
+        ),
+        (
+            &["k", "t", "self", "10", "1048576", "3"],
+            (10, 1_048_576, 3),
+        ),
+    ];
+    for (list, (seed, count, order)) in cases {
+        let words = words_of(rt.alloc(), list)?;
+        assert_eq!(rt; read_words(&words), Ok(Job::SelfRun { seed, count, order }));
+    }
+    Ok(())
+}
+
+#[test]
+fn refuses_the_words_of_self(rt: HostRuntime) -> Result<(), Fail> {
+    let cases: [(&[&str], u32); 10] = [
+        (&["k", "t", "self"], 4),
+        (&["k", "t", "self", "18446744073709551616", "1", "1"], 4),
+        (&["k", "t", "self", "01", "1", "1"], 4),
+        (&["k", "t", "self", "-1", "1", "1"], 4),
+        (&["k", "t", "self", "1", "0", "1"], 5),
+        (&["k", "t", "self", "1", "1048577", "1"], 5),
+        (&["k", "t", "self", "1", "+1", "1"], 5),
+        (&["k", "t", "self", "1", "1", "8"], 6),
+        (&["k", "t", "self", "1", "1"], 6),
+        (&["k", "t", "self", "1", "1", "1", "x"], 7),
+    ];
+    for (list, place) in cases {
+        let words = words_of(rt.alloc(), list)?;
+        assert_eq!(rt; read_words(&words), Err(BadWords { place }));
+    }
+    Ok(())
+}
+
 // The number of the last wire that `probe` names.
 fn last_wire(words: &Words) -> Option<u32> {
     let count = words.len();

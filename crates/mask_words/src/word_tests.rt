@@ -2,7 +2,7 @@
 
 ghost use Rattle.std.specs.Prelude.{◌≡◌, ℕ, ◌<◌, List, length};
 ghost use Rattle.std.specs.Prelude.{codes, IsTrue};
-ghost use Rattle.mask_words.specs.WordTests.{passes, command_text, are_hex_digits, are_digits, are_seed_digits, present_size, lea_size, is_hex_text, is_tape, is_order, is_number, number_of, WiresHaveOneNumber};
+ghost use Rattle.mask_words.specs.WordTests.{passes, command_text, are_hex_digits, are_digits, are_seed_digits, present_size, lea_size, is_hex_text, is_tape, is_order, is_number_between, is_wire, number_of, WiresHaveOneNumber};
 
 use itoa::Buffer;
 use mask_tasks::{KeySize, LeaSize, circuit_named};
@@ -26,6 +26,8 @@ pub enum Command {
     Join,
     /// `emit`
     Emit,
+    /// `self`
+    SelfRun,
 }
 
 impl Command {
@@ -41,6 +43,7 @@ impl Command {
             Command::Split => "split",
             Command::Join => "join",
             Command::Emit => "emit",
+            Command::SelfRun => "self",
         }
     }
 }
@@ -66,6 +69,10 @@ pub enum Test {
     Hex,
     /// The number of a wire: in decimal, without a needless zero, and less than 2^32.
     Wire,
+    /// The seed of a message: in decimal, without a needless zero, and at most 18446744073709551615.
+    Seed,
+    /// A count: in decimal, without a needless zero, and from 1 to 1048576.
+    Count,
     /// The name of a circuit that is built in.
     Circuit,
 }
@@ -84,7 +91,9 @@ impl Test {
             Test::Order => is_order(word.as_bytes()),
             Test::Digits(count) => are_digits(count, word.as_bytes()),
             Test::Hex => is_hex_text(word),
-            Test::Wire => is_number(word),
+            Test::Wire => is_number_between(0, 4_294_967_295, word),
+            Test::Seed => is_number_between(0, 18_446_744_073_709_551_615, word),
+            Test::Count => is_number_between(1, 1_048_576, word),
             Test::Circuit => circuit_named(word).is_some(),
         }
     }
@@ -156,18 +165,18 @@ fn is_hex_text(word: &str) -> bool
 }
 
 // Only the spelling of a number is written the same again.
-fn is_number(word: &str) -> bool
-    ensures { result ≡ is_number word.now }
+fn is_number_between(low: u64, high: u64, word: &str) -> bool
+    ensures { result ≡ is_number_between low high word.now }
 {
-    match word.parse::<u32>() {
-        Ok(number) => Buffer::new().format(number) == word,
+    match word.parse::<u64>() {
+        Ok(number) => low <= number && number <= high && Buffer::new().format(number) == word,
         Err(_) => false,
     }
 }
 
 /// The number that a WIRE word spells.
 pub fn wire_of(word: &str) -> u32
-    requires { IsTrue (is_number word.now) }
+    requires { IsTrue (is_wire word.now) }
     ensures { result ≡ number_of word.now }
 {
     word.parse::<u32>().unwrap()
