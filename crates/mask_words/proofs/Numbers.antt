@@ -5,7 +5,7 @@ use Rattle.std.specs.Fmt.{decimal}
 use Rattle.std.specs.Str.{bytes_eq}
 use Rattle.std.specs.Str.Parse.{ParsesUnsigned}
 use Rattle.std.proofs.lemmas.Bool.{false_from_ne_true}
-use Rattle.std.proofs.lemmas.Bool.Decides.{same_from_decides, Decides-and, Decides-like}
+use Rattle.std.proofs.lemmas.Bool.Decides.{same_from_decides, Decides-and}
 use Rattle.std.proofs.lemmas.Fmt.{decimal_is_IsNumeral, parse-decimal}
 use Rattle.std.proofs.lemmas.Slice.Eq.{bytes_eq-Decides}
 use Rattle.mask_words.specs.WordTests.{Word, is_number_between, number_of}
@@ -46,19 +46,25 @@ module _ (low high : ℕ) where
       let spelled = (is_number_between-Decides w).0 is in
       parse-decimal k (number_of w) w r (omega (arith, spelled.0.1)) (omega (arith, spelled.0.1)) spelled.1 parsed
 
+  -- which is then the number that was read
+  parsed-number : {E : Type 0} (w : Word) (n : ℕ) (r : Result ℕ E) → ParsesUnsigned 64 10 w r → high < 2 ^ 64 → r ≡ Ok n → IsSpelled w →
+      n ≡ number_of w
+  parsed-number w n r parsed fits read spelled =
+      let e = parse-is_number 64 w r parsed fits fits ((is_number_between-Decides w).1 spelled) in cc
+
   -- a word that parses passes where the number that was read is in the range, and is written as that word
   pub is_number-parsed : {E : Type 0} (w : Word) (n : ℕ) (r : Result ℕ E) → ParsesUnsigned 64 10 w r → high < 2 ^ 64 → r ≡ Ok n →
       (leb low n && leb n high && bytes_eq (decimal n) w) ≡ is_number_between low high w
   is_number-parsed w n r parsed fits read =
       let value = rw read at parsed in
       let small : n < 2 ^ 64 = omega (arith, value.0.1, value.1) in
-      let known : IsSpelled w → n ≡ number_of w = λ spelled.
-      let e = parse-is_number 64 w r parsed fits fits ((is_number_between-Decides w).1 spelled) in cc in
-      same_from_decides _ _
-      (Decides-like _
-      (λ h. IsSpelled-decimal n w small h.0.0 h.0.1 (sym h.1))
-      (λ spelled. let same = known spelled in ((omega (arith, spelled.0.0), omega (arith, spelled.0.1)), ap decimal same ∙ sym spelled.1))
-      (Decides-between n _ (bytes_eq-Decides (decimal n) w)))
+      let read_so = Decides-between n _ (bytes_eq-Decides (decimal n) w) in
+      same_from_decides _ _ (
+        λ passes. let h = read_so.0 passes in IsSpelled-decimal n w small h.0.0 h.0.1 (sym h.1),
+        λ spelled.
+            let same = parsed-number w n r parsed fits read spelled in
+            read_so.1 ((omega (arith, spelled.0.0), omega (arith, spelled.0.1)), ap decimal same ∙ sym spelled.1),
+      )
       (is_number_between-Decides w)
 
   -- and one that doesn't parse doesn't pass

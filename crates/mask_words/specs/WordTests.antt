@@ -1,5 +1,5 @@
 -- What a word of a command line may be. A word is the list of its bytes.
-use Rattle.std.specs.Prelude.{◌≡◌, ℕ, ◌%◌, ◌^◌, ◌<◌, Bool, not, ◌&&◌, ◌||◌, ◌==◌, nat_eq, nat_lt, nat_le, IsTrue, if◌then◌else◌, Option, None, Some, is_some, List, [], ◌∷◌, length, drop, codes, decimal, slice_index}
+use Rattle.std.specs.Prelude.{◌≡◌, ℕ, ◌%◌, ◌^◌, ◌<◌, Bool, not, ◌&&◌, ◌||◌, ◌==◌, nat_eq, nat_le, IsTrue, if◌then◌else◌, Option, None, Some, is_some, List, [], ◌∷◌, length, drop, codes, decimal, slice_index}
 use Rattle.std.specs.List.{list_all, starts_with}
 use Rattle.std.specs.Str.{bytes_eq}
 use Rattle.std.specs.Str.Parse.{digits_value}

@@ -6,7 +6,11 @@ ghost use Rattle.mask_words.specs.WordTests.{is_order, are_digits, present_size,
 ghost use Rattle.mask_words.specs.Jobs.{tests_of, tail_of, reach, Match, order_of, present_size_of, lea_size_of, iv_of, circuit_of, job_of, IsJob, IsRefused, HasOrder, HasCount, HasWords, HaveOneJob, HaveOnePlace};
 
 use crate::command_lines::Words;
-use crate::word_tests::{Command, Test, lea_size, present_size};
+use crate::word_tests::Command::{Check, Emit, Enc, Eval, Join, Probe, SelfRun, Split, Upgrade};
+use crate::word_tests::Test::{
+    self, Circuit, Count, Digits, Given, Hex, Lea, Order, Present, Seed, Tape,
+};
+use crate::word_tests::{lea_size, present_size};
 use mask_tasks::{KeySize, LeaSize, Named, Task, circuit_named};
 
 /// A form that a command line may have: a row of the table of commands.
@@ -84,63 +88,16 @@ impl Form {
         ensures { result.now ≡ tests_of self }
     {
         match self {
-            Form::EncPresent => &[
-                Test::Given,
-                Test::Tape,
-                Test::Named(Command::Enc),
-                Test::Present,
-                Test::Order,
-                Test::Digits(16),
-            ],
-            Form::EncLea => &[
-                Test::Given,
-                Test::Tape,
-                Test::Named(Command::Enc),
-                Test::Lea,
-                Test::Order,
-                Test::Digits(32),
-            ],
-            Form::Eval => &[
-                Test::Given,
-                Test::Tape,
-                Test::Named(Command::Eval),
-                Test::Order,
-                Test::Hex,
-            ],
-            Form::Check => &[Test::Given, Test::Tape, Test::Named(Command::Check)],
-            Form::Upgrade => &[Test::Given, Test::Tape, Test::Named(Command::Upgrade)],
-            Form::Probe => &[
-                Test::Given,
-                Test::Tape,
-                Test::Named(Command::Probe),
-                Test::Order,
-            ],
-            Form::Split => &[
-                Test::Given,
-                Test::Tape,
-                Test::Named(Command::Split),
-                Test::Order,
-            ],
-            Form::Join => &[
-                Test::Given,
-                Test::Tape,
-                Test::Named(Command::Join),
-                Test::Order,
-            ],
-            Form::Emit => &[
-                Test::Given,
-                Test::Tape,
-                Test::Named(Command::Emit),
-                Test::Circuit,
-            ],
-            Form::SelfRun => &[
-                Test::Given,
-                Test::Tape,
-                Test::Named(Command::SelfRun),
-                Test::Seed,
-                Test::Count,
-                Test::Order,
-            ],
+            Form::EncPresent => &[Given, Tape, Test::Named(Enc), Present, Order, Digits(16)],
+            Form::EncLea => &[Given, Tape, Test::Named(Enc), Lea, Order, Digits(32)],
+            Form::Eval => &[Given, Tape, Test::Named(Eval), Order, Hex],
+            Form::Check => &[Given, Tape, Test::Named(Check)],
+            Form::Upgrade => &[Given, Tape, Test::Named(Upgrade)],
+            Form::Probe => &[Given, Tape, Test::Named(Probe), Order],
+            Form::Split => &[Given, Tape, Test::Named(Split), Order],
+            Form::Join => &[Given, Tape, Test::Named(Join), Order],
+            Form::Emit => &[Given, Tape, Test::Named(Emit), Circuit],
+            Form::SelfRun => &[Given, Tape, Test::Named(SelfRun), Seed, Count, Order],
         }
     }
 

@@ -1,7 +1,5 @@
-use Rattle.std.proofs.Common.{◌≡◌, ◌&&◌, Bool, true, false, ℕ, leb, sym, ap, ◌∙◌, arith}
+use Rattle.std.proofs.Common.{sym, arith}
 use Rattle.std.proofs.lemmas.Bool.Decides.{nat_tests}
-use Rattle.std.specs.Str.{bytes_eq}
-use Rattle.mask_words.specs.WordTests.{Word}
 use Rattle.mask_words.proofs.Numbers.{is_number-parsed, is_number-unparsed}
 use Rattle.mask_words.proofs.word_tests.is_number_between.Goals.{then-low-number, else-low-number}
 use Rattle.mask_words.proofs.word_tests.is_number_between.Goals as goal
@@ -9,22 +7,12 @@ use Rattle.mask_words.proofs.word_tests.is_number_between.Goals as goal
 pub returns-then-number-high : goal.returns-then-number-high
 returns-then-number-high c =
     let whole = is_number-parsed c.args.low c.args.high c.args.word.now c.in-Ok.number c.parse.result c.parse.ensures.value.0 (omega arith) c.in-Ok.is in
-    let inside : leb c.args.low c.in-Ok.number && leb c.in-Ok.number c.args.high ≡ true =
-    elim c.if-low-number.branch [ then-low-number w ↦ grind (arith, nat_tests) | else-low-number w ↦ grind (arith, nat_tests) ] in
-    c.eq.ensures ∙ ap (λ (written : Word). bytes_eq written c.args.word.now) c.format.ensures.text ∙ (rw inside at whole)
+    elim c.if-low-number.branch [ then-low-number w ↦ grind (arith, nat_tests) | else-low-number w ↦ grind (arith, nat_tests) ]
 
 pub returns-else-number-high : goal.returns-else-number-high
 returns-else-number-high c =
     let whole = is_number-parsed c.args.low c.args.high c.args.word.now c.in-Ok.number c.parse.result c.parse.ensures.value.0 (omega arith) c.in-Ok.is in
-    elim c.if-low-number.branch [
-      | then-low-number w ↦
-          let no : leb c.in-Ok.number c.args.high ≡ false = grind (arith, nat_tests) in
-          let outside : leb c.args.low c.in-Ok.number && leb c.in-Ok.number c.args.high ≡ false = grind (arith, nat_tests) in
-          w.t-10-is ∙ no ∙ (rw outside at whole)
-      | else-low-number w ↦
-          let no : leb c.args.low c.in-Ok.number ≡ false = grind (arith, nat_tests) in
-          w.t-10-is ∙ no ∙ (rw no at whole)
-    ]
+    elim c.if-low-number.branch [ then-low-number w ↦ grind (arith, nat_tests) | else-low-number w ↦ grind (arith, nat_tests) ]
 
 pub returns-in-Err : goal.returns-in-Err
 returns-in-Err c =
