@@ -1,12 +1,12 @@
 -- Words are one job at most, since the rows of the table are apart from one another, which is computed.
-use Rattle.std.proofs.Common.{◌≡◌, ℕ, zero, suc, ◌<◌, Bool, true, false, ◌&&◌, ◌||◌, not, Option, None, Some, List, [], ◌∷◌, length, get_or, refl, sym, ap, ◌∙◌, subst, inl, inr, arith}
+use Rattle.std.proofs.Common.{◌≡◌, ℕ, zero, suc, ◌<◌, Bool, true, false, ◌&&◌, ◌||◌, not, ◌==◌, eq-eqb, Option, None, Some, List, [], ◌∷◌, length, get_or, refl, sym, ap, ◌∙◌, subst, inl, inr, arith}
 use Rattle.std.specs.List.{list_all}
 use Rattle.std.specs.Str.{bytes_eq}
-use Rattle.std.proofs.lemmas.Bool.{and_parts, cases_order}
+use Rattle.std.proofs.lemmas.Bool.{and_parts, cases_order, eqb-true}
 use Rattle.std.proofs.lemmas.List.Sums.{AllPass-from_list_all}
 use Rattle.std.proofs.lemmas.Slice.Eq.{bytes_eq-Decides}
 use Rattle.mask_words.specs.declared.word_tests.Test.{Test}
-use Rattle.mask_words.specs.declared.word_tests.Test.TheVariants.{Named}
+use Rattle.mask_words.specs.declared.word_tests.Test.TheVariants.{Named, Digits}
 use Rattle.mask_words.specs.declared.table.Form.{Form}
 use Rattle.mask_words.specs.declared.table.Form.TheVariants as forms
 use Rattle.mask_words.specs.declared.table.Job.{Job}
@@ -18,6 +18,7 @@ use Rattle.mask_words.proofs.Trying.{form_at, row_of}
 -- no word passes both tests
 abbrev pub disjoint : Test → Test → Bool
 disjoint (Named c) (Named d) = not (bytes_eq (command_text c) (command_text d))
+disjoint (Digits m) (Digits n) = not (m == n)
 disjoint t u = false
 
 -- some word passes disjoint tests, or one row has more words than the other may have
@@ -35,6 +36,10 @@ disjoint-sound (Named c) (Named d) w h p q =
     let second = (bytes_eq-Decides w (command_text d)).0 q in
     let same : bytes_eq (command_text c) (command_text d) ≡ true = (bytes_eq-Decides (command_text c) (command_text d)).1 (sym first ∙ second) in
     let contrary : not (bytes_eq (command_text c) (command_text d)) ≡ false = ap not same in cc
+disjoint-sound (Digits m) (Digits n) w h p q =
+    let first : length w ≡ m = eqb-true _ _ (and_parts _ _ p).0 in
+    let second : length w ≡ n = eqb-true _ _ (and_parts _ _ q).0 in
+    let contrary : not (m == n) ≡ false = ap not (eq-eqb m n (sym first ∙ second)) in cc
 disjoint-sound t u w h p q = cc
 
 either : (a b : Bool) → a || b ≡ true → (a ≡ true → ⊥) → (b ≡ true → ⊥) → ⊥

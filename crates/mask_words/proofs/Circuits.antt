@@ -4,7 +4,7 @@ use Rattle.std.specs.Prelude.{MatchOption}
 use Rattle.std.specs.Str.{bytes_eq}
 use Rattle.std.proofs.lemmas.Slice.Eq.{bytes_eq-Decides}
 use Rattle.mask_tasks.specs.declared.names.Named.{Named}
-use Rattle.mask_tasks.specs.declared.names.Named.TheVariants.{Present80, Present128, Refresh80, Refresh128}
+use Rattle.mask_tasks.specs.declared.names.Named.TheVariants.{Present80, Present128, Lea128, Lea192, Lea256, Refresh80, Refresh128, Refresh192, Refresh256}
 use Rattle.mask_tasks.specs.declared.names.TheConstants.{ALL}
 use Rattle.mask_tasks.specs.Names.{name_text}
 use Rattle.mask_words.specs.WordTests.{Word, first_named, circuit_named}
@@ -23,8 +23,13 @@ first_named-name (name ∷ names) w found e = step (first_named-name names w fou
 circuit_named-name : (name : Named) → circuit_named (name_text name) ≡ Some name
 circuit_named-name Present80 = refl
 circuit_named-name Present128 = refl
+circuit_named-name Lea128 = refl
+circuit_named-name Lea192 = refl
+circuit_named-name Lea256 = refl
 circuit_named-name Refresh80 = refl
 circuit_named-name Refresh128 = refl
+circuit_named-name Refresh192 = refl
+circuit_named-name Refresh256 = refl
 
 -- so any search by names finds the same
 pub circuit_named-found : (w : Word) (found : Option Named) →

@@ -54,6 +54,9 @@ parse-digits {E = E} n k w r parsed is some fits =
     given (Ok x) h holds = ap Ok h.1
     given (Err e) h holds = absurd (h holds)
 
--- 16 digits of 4 bits are 64 bits
+-- a digit is 4 bits
 pub parse-64_bits : {E : Type 0} (w : Word) (r : Result ℕ E) → ParsesUnsigned 64 16 w r → are_digits 16 w ≡ true → r ≡ Ok (digits_value 16 w)
 parse-64_bits w r parsed is = parse-digits 16 64 w r parsed is (omega arith) (omega arith)
+
+pub parse-128_bits : {E : Type 0} (w : Word) (r : Result ℕ E) → ParsesUnsigned 128 16 w r → are_digits 32 w ≡ true → r ≡ Ok (digits_value 16 w)
+parse-128_bits w r parsed is = parse-digits 32 128 w r parsed is (omega arith) (omega arith)

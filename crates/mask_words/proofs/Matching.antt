@@ -4,7 +4,7 @@ use Rattle.std.proofs.lemmas.Fmt.{decimal_digit}
 use Rattle.std.proofs.lemmas.List.{drop_all}
 use Rattle.mask_words.specs.declared.word_tests.Command.TheVariants as commands
 use Rattle.mask_words.specs.declared.word_tests.Test.{Test}
-use Rattle.mask_words.specs.declared.word_tests.Test.TheVariants.{Given, Tape, Named, Present, Order, Digits, Hex, Wire, Circuit}
+use Rattle.mask_words.specs.declared.word_tests.Test.TheVariants.{Given, Tape, Named, Present, Lea, Order, Digits, Hex, Wire, Seed, Count, Circuit}
 use Rattle.mask_words.specs.WordTests.{Word, command_text, are_hex_digits, are_digits, passes}
 use Rattle.mask_words.specs.Jobs.{Match, reach}
 
@@ -32,10 +32,13 @@ sample Given = codes "-"
 sample Tape = codes "-"
 sample (Named c) = command_text c
 sample Present = codes "present-80"
+sample Lea = codes "lea-128"
 sample Order = codes "1"
 sample (Digits n) = zeros n
 sample Hex = codes "-"
 sample Wire = codes "0"
+sample Seed = codes "0"
+sample Count = codes "1"
 sample Circuit = codes "present-80"
 
 sample-passes : (t : Test) → passes t (sample t) ≡ true
@@ -50,11 +53,15 @@ sample-passes (Named commands.Probe) = refl
 sample-passes (Named commands.Split) = refl
 sample-passes (Named commands.Join) = refl
 sample-passes (Named commands.Emit) = refl
+sample-passes (Named commands.SelfRun) = refl
 sample-passes Present = refl
+sample-passes Lea = refl
 sample-passes Order = refl
 sample-passes (Digits n) = are_digits-zeros n
 sample-passes Hex = refl
 sample-passes Wire = rw (decimal_digit 0 (omega arith)) refl
+sample-passes Seed = rw (decimal_digit 0 (omega arith)) refl
+sample-passes Count = rw (decimal_digit 1 (omega arith)) refl
 sample-passes Circuit = refl
 
 -- words that pass the tests

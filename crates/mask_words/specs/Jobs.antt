@@ -4,21 +4,24 @@ use Rattle.std.specs.Option.{unwrap_or}
 use Rattle.std.specs.Str.Parse.{digits_value}
 use Rattle.mask_tasks.specs.declared.sizes.KeySize.{KeySize}
 use Rattle.mask_tasks.specs.declared.sizes.KeySize.TheVariants.{K80}
+use Rattle.mask_tasks.specs.declared.sizes.LeaSize.{LeaSize}
+use Rattle.mask_tasks.specs.declared.sizes.LeaSize.TheVariants as lea
 use Rattle.mask_tasks.specs.declared.tasks.Task.TheVariants as tasks
 use Rattle.mask_tasks.specs.declared.names.Named.{Named as BuiltIn}
 use Rattle.mask_tasks.specs.declared.names.Named.TheVariants.{Present80}
 use Rattle.mask_words.specs.declared.word_tests.Test.{Test}
-use Rattle.mask_words.specs.declared.word_tests.Test.TheVariants.{Given, Tape, Named, Present, Order, Digits, Hex, Wire, Circuit}
+use Rattle.mask_words.specs.declared.word_tests.Test.TheVariants.{Given, Tape, Named, Present, Lea, Order, Digits, Hex, Wire, Seed, Count, Circuit}
 use Rattle.mask_words.specs.declared.table.Form.{Form}
 use Rattle.mask_words.specs.declared.table.Form.TheVariants as forms
 use Rattle.mask_words.specs.declared.table.Job.{Job}
 use Rattle.mask_words.specs.declared.table.Job.TheVariants as jobs
 use Rattle.mask_words.specs.declared.word_tests.Command.TheVariants as commands
-use Rattle.mask_words.specs.WordTests.{Word, passes, is_hex_text, is_number, present_size, circuit_named}
+use Rattle.mask_words.specs.WordTests.{Word, passes, is_hex_text, is_wire, number_of, present_size, lea_size, circuit_named}
 
 -- what the words of a form are tested for, one by one
 abbrev pub tests_of : Form → List Test
 tests_of forms.EncPresent = Given ∷ Tape ∷ Named commands.Enc ∷ Present ∷ Order ∷ Digits 16 ∷ []
+tests_of forms.EncLea = Given ∷ Tape ∷ Named commands.Enc ∷ Lea ∷ Order ∷ Digits 32 ∷ []
 tests_of forms.Eval = Given ∷ Tape ∷ Named commands.Eval ∷ Order ∷ Hex ∷ []
 tests_of forms.Check = Given ∷ Tape ∷ Named commands.Check ∷ []
 tests_of forms.Upgrade = Given ∷ Tape ∷ Named commands.Upgrade ∷ []
@@ -26,10 +29,12 @@ tests_of forms.Probe = Given ∷ Tape ∷ Named commands.Probe ∷ Order ∷ []
 tests_of forms.Split = Given ∷ Tape ∷ Named commands.Split ∷ Order ∷ []
 tests_of forms.Join = Given ∷ Tape ∷ Named commands.Join ∷ Order ∷ []
 tests_of forms.Emit = Given ∷ Tape ∷ Named commands.Emit ∷ Circuit ∷ []
+tests_of forms.SelfRun = Given ∷ Tape ∷ Named commands.SelfRun ∷ Seed ∷ Count ∷ Order ∷ []
 
 -- what further words are tested for, where a form may have them
 abbrev pub tail_of : Form → Option Test
 tail_of forms.EncPresent = None
+tail_of forms.EncLea = None
 tail_of forms.Eval = None
 tail_of forms.Check = None
 tail_of forms.Upgrade = None
@@ -37,6 +42,7 @@ tail_of forms.Probe = Some Wire
 tail_of forms.Split = None
 tail_of forms.Join = None
 tail_of forms.Emit = None
+tail_of forms.SelfRun = None
 
 -- as many words as tests, or more where further words have a test, and each word passes its test
 abbrev pub Match : List Test → Option Test → List Word → Type 0
@@ -59,9 +65,12 @@ reach (t ∷ ts) tail (w ∷ ws) = cond (passes t w) (suc (reach ts tail ws)) 0
 abbrev pub order_of : Word → ℕ
 order_of w = slice_index w 0 - 48
 
--- the key size that a CIPHER word names; a word that names none doesn't come here
-abbrev pub size_of : Word → KeySize
-size_of w = unwrap_or (present_size w) K80
+-- the key sizes that CIPHER words name; a word that names none doesn't come here
+abbrev pub present_size_of : Word → KeySize
+present_size_of w = unwrap_or (present_size w) K80
+
+abbrev pub lea_size_of : Word → LeaSize
+lea_size_of w = unwrap_or (lea_size w) lea.K128
 
 -- the number that the digits of an IV spell in hexadecimal, highest digit first
 abbrev pub iv_of : Word → ℕ
@@ -77,7 +86,8 @@ word_at ws place = slice_index_or ws (place - 1) []
 
 -- the job of words of that form
 abbrev pub job_of : Form → List Word → Job
-job_of forms.EncPresent ws = jobs.Enc (tasks.Present (size_of (word_at ws 4)) (iv_of (word_at ws 6))) (order_of (word_at ws 5))
+job_of forms.EncPresent ws = jobs.Enc (tasks.Present (present_size_of (word_at ws 4)) (iv_of (word_at ws 6))) (order_of (word_at ws 5))
+job_of forms.EncLea ws = jobs.Enc (tasks.Lea (lea_size_of (word_at ws 4)) (iv_of (word_at ws 6))) (order_of (word_at ws 5))
 job_of forms.Eval ws = jobs.Eval (order_of (word_at ws 4))
 job_of forms.Check ws = jobs.Check
 job_of forms.Upgrade ws = jobs.Upgrade
@@ -85,6 +95,7 @@ job_of forms.Probe ws = jobs.Probe (order_of (word_at ws 4))
 job_of forms.Split ws = jobs.Split (order_of (word_at ws 4))
 job_of forms.Join ws = jobs.Join (order_of (word_at ws 4))
 job_of forms.Emit ws = jobs.Emit (circuit_of (word_at ws 4))
+job_of forms.SelfRun ws = jobs.SelfRun (number_of (word_at ws 4)) (number_of (word_at ws 5)) (order_of (word_at ws 6))
 
 -- the words are this job
 abbrev pub IsJob : List Word → Job → Type 0
@@ -111,6 +122,12 @@ HasOrder (jobs.Probe order) = (1 ≤ order) × (order ≤ 7)
 HasOrder (jobs.Split order) = (1 ≤ order) × (order ≤ 7)
 HasOrder (jobs.Join order) = (1 ≤ order) × (order ≤ 7)
 HasOrder (jobs.Emit circuit) = Unit {0}
+HasOrder (jobs.SelfRun seed count order) = (1 ≤ order) × (order ≤ 7)
+
+-- the count of a job that has one is from 1 to 1048576
+abbrev pub HasCount : Job → Type 0
+HasCount (jobs.SelfRun seed count order) = (1 ≤ count) × (count ≤ 1048576)
+HasCount job = Unit {0}
 
 -- the words of `eval`: five, of which the fourth is the order and the fifth is in hexadecimal
 pub record EvalWords (ws : List Word) (order : ℕ) : Type 0 where
@@ -123,7 +140,7 @@ pub record EvalWords (ws : List Word) (order : ℕ) : Type 0 where
 pub record ProbeWords (ws : List Word) (order : ℕ) : Type 0 where
   pub count : 4 ≤ length ws
   pub order_word : order ≡ order_of (word_at ws 4)
-  pub wire_words : (k : ℕ) → 4 ≤ k → k < length ws → IsTrue (is_number (slice_index_or ws k []))
+  pub wire_words : (k : ℕ) → 4 ≤ k → k < length ws → IsTrue (is_wire (slice_index_or ws k []))
 
 -- the words are those of this job, where a command reads them again
 abbrev pub HasWords : List Word → Job → Type 0
@@ -135,6 +152,7 @@ HasWords ws (jobs.Probe order) = ProbeWords ws order
 HasWords ws (jobs.Split order) = Unit {0}
 HasWords ws (jobs.Join order) = Unit {0}
 HasWords ws (jobs.Emit circuit) = Unit {0}
+HasWords ws (jobs.SelfRun seed count order) = Unit {0}
 
 -- Words are one job at most, and are refused at one place at most.
 abbrev pub HaveOneJob : Type 0

@@ -2,18 +2,24 @@
 
 ghost use Rattle.std.specs.Prelude.{◌≡◌, ℕ, ◌+◌, ◌-◌, ◌*◌, ◌<◌, ◌≤◌, List, length, IfOk, IfErr, drop, take};
 ghost use Rattle.std.specs.Prelude.{IsTrue, ◌↔◌, is_some};
-ghost use Rattle.mask_words.specs.WordTests.{is_order, are_digits, present_size, circuit_named};
-ghost use Rattle.mask_words.specs.Jobs.{tests_of, tail_of, reach, Match, order_of, size_of, iv_of, circuit_of, job_of, IsJob, IsRefused, HasOrder, HasWords, HaveOneJob, HaveOnePlace};
+ghost use Rattle.mask_words.specs.WordTests.{is_order, are_digits, present_size, lea_size, is_message_seed, is_count, number_of, circuit_named};
+ghost use Rattle.mask_words.specs.Jobs.{tests_of, tail_of, reach, Match, order_of, present_size_of, lea_size_of, iv_of, circuit_of, job_of, IsJob, IsRefused, HasOrder, HasCount, HasWords, HaveOneJob, HaveOnePlace};
 
 use crate::command_lines::Words;
-use crate::word_tests::{Command, Test, present_size};
-use mask_tasks::{KeySize, Named, Task, circuit_named};
+use crate::word_tests::Command::{Check, Emit, Enc, Eval, Join, Probe, SelfRun, Split, Upgrade};
+use crate::word_tests::Test::{
+    self, Circuit, Count, Digits, Given, Hex, Lea, Order, Present, Seed, Tape,
+};
+use crate::word_tests::{lea_size, present_size};
+use mask_tasks::{KeySize, LeaSize, Named, Task, circuit_named};
 
 /// A form that a command line may have: a row of the table of commands.
 #[derive(Clone, Copy, Debug, PartialEq, Eq)]
 pub enum Form {
     /// `KEYS TAPE enc CIPHER ORDER IV`, where CIPHER is PRESENT with a key size
     EncPresent,
+    /// `KEYS TAPE enc CIPHER ORDER IV`, where CIPHER is LEA with a key size
+    EncLea,
     /// `KEYS TAPE eval ORDER HEX`
     Eval,
     /// `KEYS TAPE check`
@@ -28,11 +34,14 @@ pub enum Form {
     Join,
     /// `KEYS TAPE emit CIRCUIT`
     Emit,
+    /// `KEYS TAPE self SEED COUNT ORDER`
+    SelfRun,
 }
 
 /// The rows of the table.
-pub const FORMS: [Form; 8] = [
+pub const FORMS: [Form; 10] = [
     Form::EncPresent,
+    Form::EncLea,
     Form::Eval,
     Form::Check,
     Form::Upgrade,
@@ -40,6 +49,7 @@ pub const FORMS: [Form; 8] = [
     Form::Split,
     Form::Join,
     Form::Emit,
+    Form::SelfRun,
 ];
 
 /// What the words of a command line ask for.
@@ -61,6 +71,8 @@ pub enum Job {
     Join { order: u32 },
     /// Write the text of a circuit that is built in.
     Emit { circuit: Named },
+    /// Encrypt a message that is made of a seed, at this order, 1 to 7, and report it.
+    SelfRun { seed: u64, count: u32, order: u32 },
 }
 
 /// The words are no job. No job's words begin with the first `place` words, or more words are wanted than there are.
@@ -76,47 +88,16 @@ impl Form {
         ensures { result.now ≡ tests_of self }
     {
         match self {
-            Form::EncPresent => &[
-                Test::Given,
-                Test::Tape,
-                Test::Named(Command::Enc),
-                Test::Present,
-                Test::Order,
-                Test::Digits(16),
-            ],
-            Form::Eval => &[
-                Test::Given,
-                Test::Tape,
-                Test::Named(Command::Eval),
-                Test::Order,
-                Test::Hex,
-            ],
-            Form::Check => &[Test::Given, Test::Tape, Test::Named(Command::Check)],
-            Form::Upgrade => &[Test::Given, Test::Tape, Test::Named(Command::Upgrade)],
-            Form::Probe => &[
-                Test::Given,
-                Test::Tape,
-                Test::Named(Command::Probe),
-                Test::Order,
-            ],
-            Form::Split => &[
-                Test::Given,
-                Test::Tape,
-                Test::Named(Command::Split),
-                Test::Order,
-            ],
-            Form::Join => &[
-                Test::Given,
-                Test::Tape,
-                Test::Named(Command::Join),
-                Test::Order,
-            ],
-            Form::Emit => &[
-                Test::Given,
-                Test::Tape,
-                Test::Named(Command::Emit),
-                Test::Circuit,
-            ],
+            Form::EncPresent => &[Given, Tape, Test::Named(Enc), Present, Order, Digits(16)],
+            Form::EncLea => &[Given, Tape, Test::Named(Enc), Lea, Order, Digits(32)],
+            Form::Eval => &[Given, Tape, Test::Named(Eval), Order, Hex],
+            Form::Check => &[Given, Tape, Test::Named(Check)],
+            Form::Upgrade => &[Given, Tape, Test::Named(Upgrade)],
+            Form::Probe => &[Given, Tape, Test::Named(Probe), Order],
+            Form::Split => &[Given, Tape, Test::Named(Split), Order],
+            Form::Join => &[Given, Tape, Test::Named(Join), Order],
+            Form::Emit => &[Given, Tape, Test::Named(Emit), Circuit],
+            Form::SelfRun => &[Given, Tape, Test::Named(SelfRun), Seed, Count, Order],
         }
     }
 
@@ -127,12 +108,14 @@ impl Form {
         match self {
             Form::Probe => Some(Test::Wire),
             Form::EncPresent
+            | Form::EncLea
             | Form::Eval
             | Form::Check
             | Form::Upgrade
             | Form::Split
             | Form::Join
-            | Form::Emit => None,
+            | Form::Emit
+            | Form::SelfRun => None,
         }
     }
 }
@@ -162,6 +145,7 @@ pub fn read_words(words: &Words) -> Result<Job, BadWords>
 
     // What a caller may rely on where it reads the words of the job again.
     ensures order { IfOk result HasOrder }
+    ensures count { IfOk result HasCount }
     ensures words { IfOk result (HasWords words.now) }
 {
     let mut farthest = 0;
@@ -194,8 +178,15 @@ fn job_of(form: Form, words: &Words) -> Job
     match form {
         Form::EncPresent => Job::Enc {
             task: Task::Present {
-                size: size_of(words.word(3)),
-                iv: iv_of(words.word(5)),
+                size: present_size_of(words.word(3)),
+                iv: present_iv_of(words.word(5)),
+            },
+            order: order_of(words.word(4)),
+        },
+        Form::EncLea => Job::Enc {
+            task: Task::Lea {
+                size: lea_size_of(words.word(3)),
+                iv: lea_iv_of(words.word(5)),
             },
             order: order_of(words.word(4)),
         },
@@ -216,6 +207,11 @@ fn job_of(form: Form, words: &Words) -> Job
         Form::Emit => Job::Emit {
             circuit: circuit_of(words.word(3)),
         },
+        Form::SelfRun => Job::SelfRun {
+            seed: seed_of(words.word(3)),
+            count: count_of(words.word(4)),
+            order: order_of(words.word(5)),
+        },
     }
 }
 
@@ -226,18 +222,32 @@ fn order_of(word: &str) -> u32
     u32::from(word.as_bytes()[0] - b'0')
 }
 
-fn size_of(word: &str) -> KeySize
+fn present_size_of(word: &str) -> KeySize
     requires { IsTrue (is_some (present_size word.now)) }
-    ensures { result ≡ size_of word.now }
+    ensures { result ≡ present_size_of word.now }
 {
     present_size(word).unwrap()
 }
 
-fn iv_of(word: &str) -> u64
+fn present_iv_of(word: &str) -> u64
     requires { IsTrue (are_digits 16 word.now) }
     ensures { result ≡ iv_of word.now }
 {
     u64::from_str_radix(word, 16).unwrap()
+}
+
+fn lea_size_of(word: &str) -> LeaSize
+    requires { IsTrue (is_some (lea_size word.now)) }
+    ensures { result ≡ lea_size_of word.now }
+{
+    lea_size(word).unwrap()
+}
+
+fn lea_iv_of(word: &str) -> u128
+    requires { IsTrue (are_digits 32 word.now) }
+    ensures { result ≡ iv_of word.now }
+{
+    u128::from_str_radix(word, 16).unwrap()
 }
 
 fn circuit_of(word: &str) -> Named
@@ -245,6 +255,20 @@ fn circuit_of(word: &str) -> Named
     ensures { result ≡ circuit_of word.now }
 {
     circuit_named(word).unwrap()
+}
+
+fn seed_of(word: &str) -> u64
+    requires { IsTrue (is_message_seed word.now) }
+    ensures { result ≡ number_of word.now }
+{
+    word.parse::<u64>().unwrap()
+}
+
+fn count_of(word: &str) -> u32
+    requires { IsTrue (is_count word.now) }
+    ensures { result ≡ number_of word.now }
+{
+    word.parse::<u32>().unwrap()
 }
 
 /// Words are one job at most, and are refused at one place at most. Those of a job aren't refused.

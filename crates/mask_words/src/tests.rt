@@ -1,5 +1,5 @@
 use super::{BadWords, Job, TapeName, Words, hex_bytes, keys_path, read_words, tape_name, wire_of};
-use mask_tasks::{KeySize, Named, Task};
+use mask_tasks::{KeySize, LeaSize, Named, Task};
 use std::alloc::{AllocError, Global};
 use std::test::Fail;
 
@@ -17,6 +17,14 @@ fn words_of(alloc: Global, list: &[&str]) -> Result<Words, AllocError> {
 fn enc(size: KeySize, iv: u64, order: u32) -> Job {
     Job::Enc {
         task: Task::Present { size, iv },
+        order,
+    }
+}
+
+// Encryption by LEA.
+fn enc_lea(size: LeaSize, iv: u128, order: u32) -> Job {
+    Job::Enc {
+        task: Task::Lea { size, iv },
         order,
     }
 }
@@ -45,8 +53,56 @@ fn reads_the_words_of_enc(rt: HostRuntime) -> Result<(), Fail> {
 }
 
 #[test]
+fn reads_the_words_of_enc_by_lea(rt: HostRuntime) -> Result<(), Fail> {
+    let cases: [(&[&str], Job); 3] = [
+        (
+            &[
+                "k",
+                "t",
+                "enc",
+                "lea-128",
+                "1",
+                "00000000000000000000000000000000",
+            ],
+            enc_lea(LeaSize::K128, 0, 1),
+        ),
+        (
+            &[
+                "k",
+                "t",
+                "enc",
+                "lea-192",
+                "7",
+                "fFfFffffFFFFffffFfffffffffffffff",
+            ],
+            enc_lea(
+                LeaSize::K192,
+                340_282_366_920_938_463_463_374_607_431_768_211_455,
+                7,
+            ),
+        ),
+        (
+            &[
+                "k",
+                "t",
+                "enc",
+                "lea-256",
+                "2",
+                "0123456789abCDEF00112233445566aA",
+            ],
+            enc_lea(LeaSize::K256, 0x0123_4567_89ab_cdef_0011_2233_4455_66aa, 2),
+        ),
+    ];
+    for (list, job) in cases {
+        let words = words_of(rt.alloc(), list)?;
+        assert_eq!(rt; read_words(&words), Ok(job));
+    }
+    Ok(())
+}
+
+#[test]
 fn reads_the_words_of_keys_and_circuits(rt: HostRuntime) -> Result<(), Fail> {
-    let cases: [(&[&str], Job); 4] = [
+    let cases: [(&[&str], Job); 6] = [
         (&["k", "t", "split", "7"], Job::Split { order: 7 }),
         (&["k", "t", "join", "1"], Job::Join { order: 1 }),
         (
@@ -59,6 +115,18 @@ fn reads_the_words_of_keys_and_circuits(rt: HostRuntime) -> Result<(), Fail> {
             &["k", "t", "emit", "refresh-128"],
             Job::Emit {
                 circuit: Named::Refresh128,
+            },
+        ),
+        (
+            &["k", "t", "emit", "lea-192"],
+            Job::Emit {
+                circuit: Named::Lea192,
+            },
+        ),
+        (
+            &["k", "t", "emit", "refresh-256"],
+            Job::Emit {
+                circuit: Named::Refresh256,
             },
         ),
     ];
@@ -85,6 +153,85 @@ fn refuses_the_words_of_enc(rt: HostRuntime) -> Result<(), Fail> {
         (&["k", "t", "enc", "present-80", "1", "+000000000000000"], 6),
         (
             &["k", "t", "enc", "present-80", "1", "0000000000000000", "x"],
+            7,
+        ),
+    ];
+    for (list, place) in cases {
+        let words = words_of(rt.alloc(), list)?;
+        assert_eq!(rt; read_words(&words), Err(BadWords { place }));
+    }
+    Ok(())
+}
+
+#[test]
+fn refuses_the_words_of_enc_by_lea(rt: HostRuntime) -> Result<(), Fail> {
+    let cases: [(&[&str], u32); 7] = [
+        (
+            &[
+                "k",
+                "t",
+                "enc",
+                "lea-512",
+                "1",
+                "00000000000000000000000000000000",
+            ],
+            4,
+        ),
+        (
+            &[
+                "k",
+                "t",
+                "enc",
+                "lea-128",
+                "0",
+                "00000000000000000000000000000000",
+            ],
+            5,
+        ),
+        (
+            &[
+                "k",
+                "t",
+                "enc",
+                "lea-128",
+                "8",
+                "00000000000000000000000000000000",
+            ],
+            5,
+        ),
+        (&["k", "t", "enc", "lea-128", "1", "0000000000000000"], 6),
+        (
+            &[
+                "k",
+                "t",
+                "enc",
+                "lea-192",
+                "1",
+                "000000000000000000000000000000000",
+            ],
+            6,
+        ),
+        (
+            &[
+                "k",
+                "t",
+                "enc",
+                "lea-256",
+                "1",
+                "+0000000000000000000000000000000",
+            ],
+            6,
+        ),
+        (
+            &[
+                "k",
+                "t",
+                "enc",
+                "lea-256",
+                "1",
+                "00000000000000000000000000000000",
+                "x",
+            ],
             7,
         ),
     ];
@@ -147,6 +294,48 @@ fn refuses_words_at_their_place(rt: HostRuntime) -> Result<(), Fail> {
         (&["k", "t", "probe", "1", "+1"], 5),
         (&["k", "t", "probe", "1", "4294967296"], 5),
         (&["k", "t", "probe", "1", "3", "x"], 6),
+    ];
+    for (list, place) in cases {
+        let words = words_of(rt.alloc(), list)?;
+        assert_eq!(rt; read_words(&words), Err(BadWords { place }));
+    }
+    Ok(())
+}
+
+#[test]
+fn reads_the_words_of_self(rt: HostRuntime) -> Result<(), Fail> {
+    let cases: [(&[&str], (u64, u32, u32)); 4] = [
+        (&["k", "t", "self", "1", "4096", "1"], (1, 4096, 1)),
+        (&["k", "t", "self", "0", "1", "7"], (0, 1, 7)),
+        (
+            &["k", "t", "self", "18446744073709551615", "1", "2"],
+            (18_446_744_073_709_551_615, 1, 2),
+        ),
+        (
+            &["k", "t", "self", "10", "1048576", "3"],
+            (10, 1_048_576, 3),
+        ),
+    ];
+    for (list, (seed, count, order)) in cases {
+        let words = words_of(rt.alloc(), list)?;
+        assert_eq!(rt; read_words(&words), Ok(Job::SelfRun { seed, count, order }));
+    }
+    Ok(())
+}
+
+#[test]
+fn refuses_the_words_of_self(rt: HostRuntime) -> Result<(), Fail> {
+    let cases: [(&[&str], u32); 10] = [
+        (&["k", "t", "self"], 4),
+        (&["k", "t", "self", "18446744073709551616", "1", "1"], 4),
+        (&["k", "t", "self", "01", "1", "1"], 4),
+        (&["k", "t", "self", "-1", "1", "1"], 4),
+        (&["k", "t", "self", "1", "0", "1"], 5),
+        (&["k", "t", "self", "1", "1048577", "1"], 5),
+        (&["k", "t", "self", "1", "+1", "1"], 5),
+        (&["k", "t", "self", "1", "1", "8"], 6),
+        (&["k", "t", "self", "1", "1"], 6),
+        (&["k", "t", "self", "1", "1", "1", "x"], 7),
     ];
     for (list, place) in cases {
         let words = words_of(rt.alloc(), list)?;

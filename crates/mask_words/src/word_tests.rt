@@ -2,10 +2,10 @@
 
 ghost use Rattle.std.specs.Prelude.{◌≡◌, ℕ, ◌<◌, List, length};
 ghost use Rattle.std.specs.Prelude.{codes, IsTrue};
-ghost use Rattle.mask_words.specs.WordTests.{passes, command_text, are_hex_digits, are_digits, are_seed_digits, present_size, is_hex_text, is_tape, is_order, is_number, number_of, WiresHaveOneNumber};
+ghost use Rattle.mask_words.specs.WordTests.{passes, command_text, are_hex_digits, are_digits, are_seed_digits, present_size, lea_size, is_hex_text, is_tape, is_order, is_number_between, is_wire, number_of, WiresHaveOneNumber};
 
 use itoa::Buffer;
-use mask_tasks::{KeySize, circuit_named};
+use mask_tasks::{KeySize, LeaSize, circuit_named};
 
 /// The name of a command. Several rows of the table may have the same.
 #[derive(Clone, Copy, Debug, PartialEq, Eq)]
@@ -26,6 +26,8 @@ pub enum Command {
     Join,
     /// `emit`
     Emit,
+    /// `self`
+    SelfRun,
 }
 
 impl Command {
@@ -41,6 +43,7 @@ impl Command {
             Command::Split => "split",
             Command::Join => "join",
             Command::Emit => "emit",
+            Command::SelfRun => "self",
         }
     }
 }
@@ -56,6 +59,8 @@ pub enum Test {
     Named(Command),
     /// PRESENT with a key size: `present-80` or `present-128`.
     Present,
+    /// LEA with a key size: `lea-128`, `lea-192` or `lea-256`.
+    Lea,
     /// An order: one digit, from 1 to 7.
     Order,
     /// So many hexadecimal digits, in either case.
@@ -64,6 +69,10 @@ pub enum Test {
     Hex,
     /// The number of a wire: in decimal, without a needless zero, and less than 2^32.
     Wire,
+    /// The seed of a message: in decimal, without a needless zero, and at most 18446744073709551615.
+    Seed,
+    /// A count: in decimal, without a needless zero, and from 1 to 1048576.
+    Count,
     /// The name of a circuit that is built in.
     Circuit,
 }
@@ -78,10 +87,13 @@ impl Test {
             Test::Tape => is_tape(word),
             Test::Named(command) => word == command.text(),
             Test::Present => present_size(word).is_some(),
+            Test::Lea => lea_size(word).is_some(),
             Test::Order => is_order(word.as_bytes()),
             Test::Digits(count) => are_digits(count, word.as_bytes()),
             Test::Hex => is_hex_text(word),
-            Test::Wire => is_number(word),
+            Test::Wire => is_number_between(0, 4_294_967_295, word),
+            Test::Seed => is_number_between(0, 18_446_744_073_709_551_615, word),
+            Test::Count => is_number_between(1, 1_048_576, word),
             Test::Circuit => circuit_named(word).is_some(),
         }
     }
@@ -116,6 +128,18 @@ pub(crate) fn present_size(word: &str) -> Option<KeySize>
     }
 }
 
+/// The key size of LEA that a CIPHER word names.
+pub(crate) fn lea_size(word: &str) -> Option<LeaSize>
+    ensures { result ≡ lea_size word.now }
+{
+    match word {
+        "lea-128" => Some(LeaSize::K128),
+        "lea-192" => Some(LeaSize::K192),
+        "lea-256" => Some(LeaSize::K256),
+        _ => None,
+    }
+}
+
 fn is_tape(word: &str) -> bool
     ensures { result ≡ is_tape word.now }
 {
@@ -141,18 +165,18 @@ fn is_hex_text(word: &str) -> bool
 }
 
 // Only the spelling of a number is written the same again.
-fn is_number(word: &str) -> bool
-    ensures { result ≡ is_number word.now }
+fn is_number_between(low: u64, high: u64, word: &str) -> bool
+    ensures { result ≡ is_number_between low high word.now }
 {
-    match word.parse::<u32>() {
-        Ok(number) => Buffer::new().format(number) == word,
+    match word.parse::<u64>() {
+        Ok(number) => low <= number && number <= high && Buffer::new().format(number) == word,
         Err(_) => false,
     }
 }
 
 /// The number that a WIRE word spells.
 pub fn wire_of(word: &str) -> u32
-    requires { IsTrue (is_number word.now) }
+    requires { IsTrue (is_wire word.now) }
     ensures { result ≡ number_of word.now }
 {
     word.parse::<u32>().unwrap()

@@ -1,6 +1,6 @@
 use Rattle.std.proofs.Common.{arith, ◌≡◌, inl, inr, subst, ℕ}
 use Rattle.mask_words.proofs.Trying.{Tried, Tried-none, Tried-more, IsRefused-tried}
-use Rattle.mask_words.proofs.JobWords.{HasOrder-job_of, HasWords-job_of}
+use Rattle.mask_words.proofs.JobWords.{HasOrder-job_of, HasCount-job_of, HasWords-job_of}
 use Rattle.mask_words.proofs.table.read_words.Goals as goal
 use Rattle.mask_words.proofs.table.read_words.Goals.{then-passed-farthest, else-passed-farthest}
 
@@ -14,11 +14,14 @@ loop-form-preserved c =
 
 pub returns-clause-refused : goal.returns-clause-refused
 returns-clause-refused c =
-    let all : c.loop-form.form-index ≡ 8 = omega arith in
+    let all : c.loop-form.form-index ≡ 10 = omega arith in
     IsRefused-tried _ _ (subst (λ (n : ℕ). Tried c.args.words.now n c.loop-form.farthest) all c.loop-form.invariant)
 
 pub returns-then-is_whole-clause-order : goal.returns-then-is_whole-clause-order
 returns-then-is_whole-clause-order c = rw c.job_of.ensures (HasOrder-job_of _ _ (c.is_whole.ensures.0 c.if-is_whole.true))
+
+pub returns-then-is_whole-clause-count : goal.returns-then-is_whole-clause-count
+returns-then-is_whole-clause-count c = rw c.job_of.ensures (HasCount-job_of _ _ (c.is_whole.ensures.0 c.if-is_whole.true))
 
 pub returns-then-is_whole-clause-words : goal.returns-then-is_whole-clause-words
 returns-then-is_whole-clause-words c = rw c.job_of.ensures (HasWords-job_of _ _ (c.is_whole.ensures.0 c.if-is_whole.true))
