@@ -1,5 +1,6 @@
 -- How a run ends behind whole batches.
-use Rattle.std.proofs.Common.{◌≡◌, ℕ, pred, suc, zero, ◌+◌, ◌*◌, ◌-◌, ◌<◌, ◌≤◌, Bool, false, List, [], ◌∷◌, ◌++◌, None, length, take, drop, refl, sym, ap, ◌∙◌, subst, arith, length-append, Option}
+use Rattle.std.proofs.Common.{◌≡◌, ℕ, pred, suc, zero, ◌+◌, ◌*◌, ◌-◌, ◌<◌, ◌≤◌, Bool, false, List, [], ◌∷◌, ◌++◌, None, length, take, drop, refl, sym, ap, ap₂, ◌∙◌, subst, arith, length-append, Option, ◌⊎◌, inl, inr}
+use Rattle.std.proofs.Math.Nat.{eq-or-lt_of_le}
 use Rattle.std.proofs.Math.Seq.{take-length, take-append-add}
 use Rattle.std.proofs.lemmas.List.{length-drop, take-append-drop}
 use Rattle.std.proofs.KnownBytes.{Appends-trans, Consumes-nil, Consumes-trans}
@@ -14,23 +15,25 @@ use Rattle.mask_tasks.specs.Tasks.{longest_message}
 use Rattle.mask_keys.specs.Lines.{joined}
 use Rattle.mask_trace.specs.Steps.{Step, bits_of}
 use Rattle.mask_trace.specs.Drawing.{Stand, Drew, RanPart}
+use Rattle.mask_modes.specs.CounterMode.{block_count}
+use Rattle.mask_modes.specs.Steps.{ahead_of}
 use Rattle.mask_modes.specs.Outputs.{key_of}
 use Rattle.mask_ciphers.specs.Tasks.{mode_of, key_bits, key_shares, output, plan, with_lines}
 use Rattle.mask_ciphers.specs.Totals.{total}
 use Rattle.mask_plan.specs.declared.session.Stop.{Stop}
 use Rattle.mask_plan.specs.declared.session.Stop.TheVariants as stops
-use Rattle.mask_plan.specs.Sessions.{Progress, Interrupted, Refuses, batch_length, have, next_steps, next_output}
+use Rattle.mask_plan.specs.Sessions.{Progress, Interrupted, Refuses, batch_length, have, next_block, next_steps, next_output}
 use Rattle.mask_message.specs.Outside.{Outside}
 use Rattle.mask_status.specs.declared.status.Status.{Status}
 use Rattle.mask_status.specs.declared.status.Status.TheVariants.{Done, ReadFault, WriteFault, NoMemory}
 use Rattle.mask_status.specs.Ends.{is_read_fault, is_tape_fault, is_write_fault}
-use Rattle.mask_message.specs.Encrypting.{RanAll, WroteBatches, FailsToDraw, TakesMessage, at_first, at_last}
+use Rattle.mask_message.specs.Encrypting.{RanAll, WroteBatches, FailsToDraw, TakesMessage, at_first, at_last, due_behind}
 use Rattle.mask_message.specs.Stopping.{is_of_tape, status_of}
 use Rattle.mask_trace.proofs.Traces.{traces_split}
 use Rattle.mask_trace.proofs.Drawing.{runs_join}
 use Rattle.mask_ciphers.proofs.Drawing.{runs_draw_totals}
 use Rattle.mask_ciphers.proofs.Breaking.{runs_are_private}
-use Rattle.mask_message.proofs.Growing.{AreBatches, Behind, SoFar, so_far-none, plan-goes_on, output-goes_on}
+use Rattle.mask_message.proofs.Growing.{AreBatches, Behind, SoFar, so_far-none, batches-more, plan-goes_on, output-goes_on}
 
 -- BITS AND BYTES
 
@@ -123,6 +126,14 @@ some-wanted task N front [] next done wanted kept some is least fit before =
     zero-right n = omega arith
 some-wanted task N front (x ∷ piece) next done wanted kept some is least fit before = omega arith
 
+-- a room that was read into is full, or the source has ended
+pub full_or_end : (n room : ℕ) (End : Type 0) → n ≤ room → (n < room → End) → (n ≡ room) ⊎ End
+full_or_end n room End few end = go (eq-or-lt_of_le few)
+  where
+    go : (n ≡ room) ⊎ (n < room) → (n ≡ room) ⊎ End
+    go (inl all) = inl all
+    go (inr less) = inr (end less)
+
 module _ (task : Task) (N : ℕ) (lines : List (List ℕ)) (o : Outside) (kept : List Bool) (some : 2 ≤ N) (front : List ℕ) (s : Progress) (left on : Option (List ℕ)) (b : Stand)
     (so_far : SoFar task N lines front s o.left_before left o.out_before on (at_first o) b) where
   -- the message has ended
@@ -142,13 +153,18 @@ module _ (task : Task) (N : ℕ) (lines : List (List ℕ)) (o : Outside) (kept :
         },
       )
 
+  whole_or_end : (piece : List ℕ) → (length piece ≡ batch_length task) ⊎ IsAtEnd o.left_after → AreBatches task (length (front ++ piece)) ⊎ IsAtEnd o.left_after
+  whole_or_end piece (inl all) = inl (rw (length-append front piece) (batches-more task (length front) (length piece) so_far.whole all))
+  whole_or_end piece (inr end) = inr end
+
   -- writing failed
-  pub cuts_off : (piece : List ℕ) (s' : Progress) → 8 * length (joined lines) ≡ (mode_of task).key → Consumes left o.left_after piece →
+  pub cuts_off : (piece : List ℕ) (s' : Progress) → (length piece ≡ batch_length task) ⊎ IsAtEnd o.left_after → 8 * length (joined lines) ≡ (mode_of task).key → Consumes left o.left_after piece →
       Behind task N lines (front ++ piece) s' (at_first o) (at_last kept o) → AppendsProperPrefix on o.out_after (next_output s piece) → TakesMessage task N lines o WriteFault
-  cuts_off piece s' long taken behind written = (
+  cuts_off piece s' last long taken behind written = (
     front ++ piece,
     Consumes-trans o.left_before left o.left_after front piece so_far.taken taken,
     record {
+      whole = whole_or_end piece last;
       within = behind.within;
       written = rw (output-goes_on task N lines front piece s (at_first o) b so_far.behind so_far.whole long)
           (part-behind o.out_before on o.out_after (output task (joined lines) front) (next_output s piece) so_far.written written);
@@ -185,6 +201,8 @@ module _ (task : Task) (N : ℕ) (lines : List (List ℕ)) (o : Outside) (kept :
       let count = length (plan task front) + stop.count in
       let part = stopped-part piece stop.count stop.ran in
       let fit = steps-left task N lines front piece s (at_first o) b so_far.behind so_far.whole stop.count stop.next stop.later stop.follow in
+      let ahead : length (ahead_of (mode_of s.task) (next_block s)) ≡ length (due_behind task front)
+      = ap₂ (λ (t : Task) (n : ℕ). length (ahead_of (mode_of t) (block_count (mode_of t).block n))) so_far.behind.task_is so_far.behind.fed_is in
       record {
         front = front;
         more = piece;
@@ -197,6 +215,7 @@ module _ (task : Task) (N : ℕ) (lines : List (List ℕ)) (o : Outside) (kept :
         count = count;
         ran = record { kept = kept; part = part; private = runs_are_private N task (front ++ piece) count some };
         holds = omega arith;
+        few = omega (arith, stop.few);
         wanted = stop.some;
         within = rw (← run-bits task N (front ++ piece) some) (wanted-within _ (bits_of N stop.next) _ part.ran.fresh o.wanted (at_first o) (at_last kept o) refl part.ran.drew stop.wants stop.some fit);
       }
@@ -224,14 +243,21 @@ module _ (task : Task) (N : ℕ) (lines : List (List ℕ)) (o : Outside) (kept :
     (front, piece, refl, few, wrote_batches unwritten stop.0),
   )
 
+-- the same run, of the task and the lines that the session began with
+pub under_task : (task other : Task) (N : ℕ) (lines : List (List ℕ)) (o : Outside) (status : Status) → length lines ≡ N → other ≡ task → TakesMessage other N lines o status →
+    TakesMessage task (length lines) lines o status
+under_task task other N lines o status many same takes =
+    subst (λ (n : ℕ). TakesMessage task n lines o status) (sym many) (subst (λ (t : Task). TakesMessage t N lines o status) same takes)
+
 -- a run that ends before it reads
-pub stops_at_start : (task : Task) (N : ℕ) (lines : List (List ℕ)) (o : Outside) → 2 ≤ N → key_of (with_lines task lines) ≡ key_bits task (joined lines) →
-    o.left_after ≡ o.left_before → o.out_before ≡ o.out_after → at_last [] o ≡ at_first o → TakesMessage task N lines o NoMemory
-stops_at_start task N lines o some key unread unwritten idle =
+pub stops_at_start : (task : Task) (N : ℕ) (lines : List (List ℕ)) (o : Outside) → 2 ≤ N → length lines ≡ N → key_of (with_lines task lines) ≡ key_bits task (joined lines) →
+    o.left_after ≡ o.left_before → o.out_before ≡ o.out_after → at_last [] o ≡ at_first o → TakesMessage task (length lines) lines o NoMemory
+stops_at_start task N lines o some many key unread unwritten idle =
     let first : Progress = record { task = task; shares = key_shares task lines; fed = 0; closed = None; ended = false; written = 0; outputs = [] } in
-    refused task N lines o [] some [] first o.left_before o.out_before (at_first o)
+    under_task task task N lines o NoMemory many refl
+    (refused task N lines o [] some [] first o.left_before o.out_before (at_first o)
     (so_far-none task N lines first o.left_before o.out_before (at_first o) refl refl key) [] 0 0 stops.NoMemory
-    (subst (λ (left : Option (List ℕ)). Consumes o.left_before left []) (sym unread) (Consumes-nil o.left_before)) (omega arith) unwritten (idle, refl)
+    (subst (λ (left : Option (List ℕ)). Consumes o.left_before left []) (sym unread) (Consumes-nil o.left_before)) (omega arith) unwritten (idle, refl))
 
 -- the status says that the tape failed where the refusal does
 pub fault-stop : (stop : Stop) → is_tape_fault (status_of stop) ≡ is_of_tape stop
@@ -248,6 +274,3 @@ pub no_write_fault : (stop : Stop) → is_write_fault (status_of stop) ≡ false
 no_write_fault (stops.TooLong limit) = refl
 no_write_fault stops.TapeFault = refl
 no_write_fault stops.NoMemory = refl
-
-pub under_task : (task other : Task) (N : ℕ) (lines : List (List ℕ)) (o : Outside) (status : Status) → other ≡ task → TakesMessage other N lines o status → TakesMessage task N lines o status
-under_task task other N lines o status same takes = subst (λ (t : Task). TakesMessage t N lines o status) same takes

@@ -1,14 +1,11 @@
 -- Key lines that were read, and a message under them.
-use Rattle.std.proofs.Common.{◌≡◌, ℕ, suc, ◌+◌, add-one, Option, List, sym, ◌∙◌, subst}
+use Rattle.std.proofs.Common.{◌≡◌, ℕ, suc, ◌+◌, add-one, Option, List, length, ◌∙◌, subst}
 use Rattle.std.specs.Io.KnownBytes.{Consumes, IsAtEnd}
 use Rattle.mask_tasks.specs.declared.tasks.Task.{Task}
 use Rattle.mask_tasks.specs.Tasks.{key_bytes}
 use Rattle.mask_keys.specs.declared.files.KeyLength.TheVariants.{Exactly}
-use Rattle.mask_keys.specs.Lines.{joined, line_length}
+use Rattle.mask_keys.specs.Lines.{line_length}
 use Rattle.mask_keys.specs.Files.{IsKeyFile}
-use Rattle.mask_modes.specs.Outputs.{key_of}
-use Rattle.mask_ciphers.specs.Tasks.{key_bits, with_lines}
-use Rattle.mask_ciphers.proofs.Joining.{lines_share_keys}
 use Rattle.mask_status.specs.declared.status.Status.{Status}
 use Rattle.mask_secrets.specs.KeyEnds.{KeyEnds, Does, StopsKeys, AreLines}
 use Rattle.mask_secrets.proofs.Stopping.{KeyEnds-stopped}
@@ -28,14 +25,11 @@ module _ (task : Task) (order asked : ℕ) (is : asked ≡ key_bytes task) where
     pub lines_long : line_length lines ≡ key_bytes task
     lines_long = are.file.long ∙ is
 
-    pub lines_key : key_of (with_lines task lines) ≡ key_bits task (joined lines)
-    lines_key = lines_share_keys.joins task lines are.file.shape lines_long
-
     -- the key lines were read, and the message under them
-    pub encs_under : (N : ℕ) (o : Outside) (status : Status) → order + 1 ≡ N → Consumes o.keys_before rest keys → rest ≡ o.keys_after →
-        TakesMessage task N lines o status → Encs task (suc order) o status
-    encs_under N o status count keys_taken rest_is takes =
-        let many : N ≡ suc order = sym count ∙ add-one order in
+    pub encs_under : (o : Outside) (status : Status) → Consumes o.keys_before rest keys → rest ≡ o.keys_after →
+        TakesMessage task (length lines) lines o status → Encs task (suc order) o status
+    encs_under o status keys_taken rest_is takes =
+        let many : length lines ≡ suc order = are.file.many ∙ add-one order in
         let file : IsKeyFile (suc order) (Exactly (key_bytes task)) keys lines
         = subst (λ (n : ℕ). IsKeyFile n (Exactly (key_bytes task)) keys lines) (add-one order)
         (subst (λ (k : ℕ). IsKeyFile (order + 1) (Exactly k) keys lines) is are.file) in

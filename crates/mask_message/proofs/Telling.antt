@@ -1,11 +1,9 @@
 -- What the watch is told: evaluations of strong circuits alone.
-use Rattle.std.proofs.Common.{◌≡◌, ℕ, ◌≤◌, Bool, false, List, [], ◌++◌, length, take, replicate, refl, sym, ◌∙◌, subst, arith, length-append, Option}
+use Rattle.std.proofs.Common.{◌≡◌, ℕ, ◌≤◌, Bool, false, List, [], ◌++◌, length, take, replicate, refl, ◌∙◌, subst, arith, length-append, Option}
 use Rattle.std.proofs.lemmas.List.{length-replicate}
 use Rattle.std.proofs.lemmas.List.Elements.{All-nil, All-take}
 use Rattle.mask_bits.specs.Reading.{low}
 use Rattle.mask_tasks.specs.declared.tasks.Task.{Task}
-use Rattle.mask_tasks.specs.Tasks.{key_bytes}
-use Rattle.mask_keys.specs.Lines.{line_length}
 use Rattle.mask_eval.specs.Watching.{Told}
 use Rattle.mask_trace.specs.Steps.{IsStrongPlan, bits_of}
 use Rattle.mask_trace.specs.Traces.{trace}

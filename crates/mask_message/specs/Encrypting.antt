@@ -1,5 +1,5 @@
 -- What `enc` does with key lines and a message, of which it took these bytes; N is the number of lines, so d is N - 1.
-use Rattle.std.specs.Prelude.{◌≡◌, ℕ, pred, ◌+◌, ◌%◌, ◌<◌, ◌≤◌, Bool, List, [], ◌++◌, length, take, All}
+use Rattle.std.specs.Prelude.{◌≡◌, ◌⊎◌, ℕ, pred, ◌+◌, ◌%◌, ◌<◌, ◌≤◌, Bool, List, [], ◌++◌, length, take, All}
 use Rattle.std.specs.declared.option.Option.{Option}
 use Rattle.std.specs.Io.KnownBytes.{Appends, Consumes, IsAtEnd}
 use Rattle.mask_bits.specs.Reading.{bytes_for}
@@ -8,9 +8,12 @@ use Rattle.mask_tasks.specs.declared.tasks.Task.{Task}
 use Rattle.mask_tasks.specs.Tasks.{key_bytes, longest_message}
 use Rattle.mask_keys.specs.Lines.{joined}
 use Rattle.mask_eval.specs.Watching.{Told, told_more}
+use Rattle.mask_trace.specs.Steps.{Step}
 use Rattle.mask_trace.specs.Drawing.{Stand, RanPart}
 use Rattle.mask_trace.specs.Values.{IsStrongEvaluation}
-use Rattle.mask_ciphers.specs.Tasks.{output, plan, with_lines}
+use Rattle.mask_modes.specs.CounterMode.{block_count}
+use Rattle.mask_modes.specs.Steps.{ahead_of}
+use Rattle.mask_ciphers.specs.Tasks.{mode_of, output, plan, with_lines}
 use Rattle.mask_ciphers.specs.Totals.{total}
 use Rattle.mask_ciphers.specs.Laws.{IsPrivateRun}
 use Rattle.mask_plan.specs.Sessions.{batch_length}
@@ -46,8 +49,10 @@ pub record Encrypts (task : Task) (N : ℕ) (lines : List (List ℕ)) (bytes : L
   pub ran : RanAll task N lines bytes o
   pub drawn : length ran.part.ran.fresh ≡ bytes_for (total task (pred N) (length bytes))
 
--- Writing failed: all bytes were encrypted, and a part of their ciphertext was written, not all.
+-- Writing failed: all bytes, which are whole batches or the whole message, were encrypted, and a part of their ciphertext was
+-- written, not all.
 pub record CutsOff (task : Task) (N : ℕ) (lines : List (List ℕ)) (bytes : List ℕ) (o : Outside) : Type 0 where
+  pub whole : (length bytes % batch_length task ≡ 0) ⊎ IsAtEnd o.left_after
   pub within : length bytes ≤ longest_message task
   pub written : AppendsProperPrefix o.out_before o.out_after (output task (joined lines) bytes)
   pub ran : RanAll task N lines bytes o
@@ -63,8 +68,13 @@ abbrev pub BreaksOff : Task → ℕ → List (List ℕ) → List ℕ → Outside
 BreaksOff task N lines bytes o Rest = (front : List ℕ) × (more : List ℕ) × (bytes ≡ front ++ more) × Rest (length more)
     × WroteBatches task N lines front o
 
+-- the refresh of the key that is due behind whole batches, or none
+abbrev pub due_behind : Task → List ℕ → List Step
+due_behind task front = ahead_of (mode_of task) (block_count (mode_of task).block (length front))
+
 -- The tape failed for the bytes behind whole batches, some but no more than a batch. The batches were written, and all their steps
--- were evaluated, and then perhaps a refresh of the key. What the tape gave and what it wants are no more than the whole run needs.
+-- were evaluated, and then perhaps a refresh of the key, and nothing else. What the tape gave and what it wants are no more than the
+-- whole run needs.
 pub record FailsToDraw (task : Task) (N : ℕ) (lines : List (List ℕ)) (bytes : List ℕ) (o : Outside) : Type 0 where
   pub front : List ℕ
   pub more : List ℕ
@@ -76,6 +86,7 @@ pub record FailsToDraw (task : Task) (N : ℕ) (lines : List (List ℕ)) (bytes 
   pub count : ℕ
   pub ran : RanSteps task N lines bytes count o
   pub holds : length (plan task front) ≤ count
+  pub few : count ≤ length (plan task front) + length (due_behind task front)
   pub wanted : 1 ≤ o.wanted
   pub within : length ran.part.ran.fresh + o.wanted ≤ bytes_for (total task (pred N) (length bytes))
 

@@ -1,6 +1,7 @@
-//! The command on messages: `enc`, which encrypts a message under a key that is split into lines.
+//! The command on messages: [`enc`], which encrypts a message under a key that is split into lines, and [`encrypt_message`], which
+//! does so with lines that are there.
 //!
-//! It reads the key file first, and then takes the message batch by batch: a batch is read, encrypted on shares, unmasked and
+//! `enc` reads the key file first. The message is taken batch by batch: a batch is read, encrypted on shares, unmasked and
 //! written by one write before more is read. So where reading, the tape or memory fails, what was written is the ciphertext of
 //! whole batches, and only the last piece of a message, which is shorter, is encrypted without more behind it.
 //!
@@ -11,4 +12,4 @@ mod bytes;
 mod encrypting;
 mod streaming;
 
-pub use encrypting::enc;
+pub use encrypting::{enc, encrypt_message};

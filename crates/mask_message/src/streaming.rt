@@ -4,17 +4,15 @@ ghost use Rattle.std.specs.Prelude.{◌≡◌, ℕ, ◌+◌, ◌≤◌, false, N
 ghost use Rattle.std.specs.declared.option.Option.{Option};
 ghost use Rattle.mask_io.specs.Outside.{faults_after};
 ghost use Rattle.mask_tasks.specs.Tasks.{key_bytes};
-ghost use Rattle.mask_keys.specs.Lines.{joined, line_length};
-ghost use Rattle.mask_modes.specs.Outputs.{key_of};
+ghost use Rattle.mask_keys.specs.Lines.{AreKeyLines, line_length};
 ghost use Rattle.mask_bits.specs.Reading.{AreBytes};
-ghost use Rattle.mask_ciphers.specs.Tasks.{key_bits, with_lines};
 ghost use Rattle.mask_counter.specs.Batches.{stand};
 ghost use Rattle.mask_plan.specs.declared.session.Stop.{Stop};
 ghost use Rattle.mask_plan.specs.declared.session.PlanError.TheVariants as PlanError;
 ghost use Rattle.mask_plan.specs.Sessions.{Evaluated, Refuses, batch_length};
 ghost use Rattle.mask_status.specs.Ends.{is_read_fault, is_tape_fault, is_write_fault};
 ghost use Rattle.mask_message.specs.Outside.{Outside};
-ghost use Rattle.mask_message.specs.Encrypting.{TakesMessage};
+ghost use Rattle.mask_message.specs.Encrypting.{TakesMessage, TellsStrongCalls};
 ghost use Rattle.mask_message.specs.Sessions.{HasKeyOf, HasTaken};
 ghost use Rattle.mask_message.specs.Stopping.{is_of_tape, status_of};
 
@@ -45,10 +43,10 @@ pub(crate) fn stream<const N: usize, S: Source, E: Entropy, O: Sink, W: Watch, L
 ) -> Status
     requires some { 2 ≤ N }
     requires few { N ≤ 8 }
-    requires lines { length lines.now ≡ N }
+    requires count { length lines.now ≡ N }
+    requires shape { AreKeyLines lines.now }
     requires length { line_length lines.now ≡ key_bytes task.now }
-    requires key { key_of (with_lines task.now lines.now) ≡ key_bits task.now (joined lines.now) }
-    ensures ends { (keys_before keys_after : Option (List ℕ)) → TakesMessage task.now N lines.now
+    ensures ends { (keys_before keys_after : Option (List ℕ)) → TakesMessage task.now (length lines.now) lines.now
         (record {
           keys_before = keys_before;
           keys_after = keys_after;
@@ -64,9 +62,11 @@ pub(crate) fn stream<const N: usize, S: Source, E: Entropy, O: Sink, W: Watch, L
           steps_before = steps.old;
           steps_after = steps.new;
         }) result }
+    ensures secure { TellsStrongCalls (length lines.now) (W.told watch.old) (W.told watch.new) }
     ensures input_faults { S.faults input.new ≡ faults_after (is_read_fault result) (S.faults input.old) }
     ensures tape_faults { E.faults entropy.new ≡ faults_after (is_tape_fault result) (E.faults entropy.old) }
     ensures out_faults { O.faults out.new ≡ faults_after (is_write_fault result) (O.faults out.old) }
+    ensures wants { result ≡ Status.TapeFault → 1 ≤ E.wanted entropy.new }
 {
     let mut session = match Session::<N>::start(alloc, task, lines, steps) {
         Ok(session) => session,

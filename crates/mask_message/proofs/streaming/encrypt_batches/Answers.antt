@@ -7,7 +7,7 @@ use Rattle.mask_tasks.specs.Tasks.{longest_message}
 use Rattle.mask_plan.specs.Sessions.{Progress, batch_length}
 use Rattle.mask_message.proofs.Growing.{so_far-none, so_far-more, behind-more, room-smaller}
 use Rattle.mask_message.proofs.Handing.{joined-long, due}
-use Rattle.mask_message.proofs.Ending.{stops_reading, refused, cuts_off, finishes}
+use Rattle.mask_message.proofs.Ending.{stops_reading, refused, full_or_end, cuts_off, finishes}
 use Rattle.mask_message.proofs.streaming.encrypt_batches.Goals as goal
 
 pub batches-init : goal.batches-init
@@ -42,7 +42,8 @@ returns-in-Err-hand_out-clause-ends g c lines has before after steps =
     let size : length piece ≡ c.in-Ok.count = length-take-le c.in-Ok.count c.read_full.new.buf (omega (arith, c.in-Ok.ensures.bound)) in
     let room = length-take-le c.in-Ok.count c.batches.room (omega (arith, c.in-Ok.ensures.bound)) in
     let long = joined-long c.args.session.now.task lines has.long in
-    cuts_off c.args.session.now.task g.row.N lines _ c.advance.new.tape c.requires.some so_far.0 c.batches.session _ _ _ so_far.1 piece c.advance.new.session long
+    cuts_off c.args.session.now.task g.row.N lines _ c.advance.new.tape c.requires.some so_far.0 c.batches.session _ _ _ so_far.1 piece c.advance.new.session
+    (full_or_end (length piece) (batch_length c.args.session.now.task) _ (omega (arith, c.in-Ok.ensures.bound)) (λ less. c.in-Ok.ensures.end (omega arith))) long
     c.in-Ok.ensures.taken
     (behind-more c.args.session.now.task g.row.N lines so_far.0 piece c.batches.session _ _ so_far.1.behind so_far.1.whole c.advance.new.session _
     c.in-Ok-advance.ensures.evaluated c.in-Ok-advance.ensures.now)
