@@ -1,0 +1,4 @@
+pub mod Generator
+pub mod Collecting
+pub mod Reports
+pub mod Selves
