@@ -117,6 +117,7 @@ has_lines jobs.Check words h = tt
 has_lines jobs.Upgrade words h = tt
 has_lines (jobs.Probe order) words h = tt
 has_lines (jobs.Emit circuit) words h = tt
+has_lines (jobs.SelfRun seed count order) words h = tt
 
 module _ (one : FirstFailureIsOne) (none : NoneFailsWhereAllPass) (checks : List Check) (Did : Status → Type 0) (text : List ℕ) (rest : Option (List ℕ))
     (status : Status) where

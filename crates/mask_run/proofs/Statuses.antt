@@ -1,5 +1,5 @@
 -- With which statuses jobs end where nothing that they read is out of form.
-use Rattle.std.proofs.Common.{◌≡◌, ℕ, suc, ◌<◌, ◌≤◌, List, length, None, Some, sym, ap}
+use Rattle.std.proofs.Common.{◌≡◌, ℕ, suc, ◌<◌, ◌≤◌, false, List, length, None, Some, refl, sym, ap}
 use Rattle.std.specs.declared.option.Option.{Option}
 use Rattle.std.specs.Io.KnownBytes.{IsAtEnd}
 use Rattle.mask_tasks.specs.declared.tasks.Task.{Task}
@@ -13,11 +13,12 @@ use Rattle.mask_words.specs.declared.table.Job.{Job}
 use Rattle.mask_words.specs.declared.table.Job.TheVariants as jobs
 use Rattle.mask_status.specs.declared.status.Status.{Status}
 use Rattle.mask_status.specs.declared.status.Status.TheVariants.{Done, TooLong, ReadFault, TapeFault, WriteFault, NoMemory}
-use Rattle.mask_status.specs.Ends.{Writes}
+use Rattle.mask_status.specs.Ends.{Writes, is_key_fault, is_read_fault}
 use Rattle.mask_secrets.specs.Splitting.{Sides, Splits, only_line}
 use Rattle.mask_emit.specs.Emitting.{named, Emits}
 use Rattle.mask_message.specs.Outside.{Outside}
 use Rattle.mask_message.specs.Encrypting.{Streams}
+use Rattle.mask_self.specs.Selves.{RunsItself}
 use Rattle.mask_run.specs.Outside.{sides}
 use Rattle.mask_run.specs.Evaluating.{Evaluated}
 use Rattle.mask_run.specs.Promises.{Kind, OnCircuit, OnKeys, OnWords, kind_of}
@@ -60,6 +61,13 @@ module _ (bytes : List ℕ) (rest : Option (List ℕ)) where
   Emits-late circuit before now NoMemory h = tt
   Emits-late circuit before now status h = absurd h
 
+  RunsItself-late : (seed N count : ℕ) (o : Outside) (status : Status) → RunsItself seed N count o status → IsLate None bytes rest status
+  RunsItself-late seed N count o Done h = tt
+  RunsItself-late seed N count o WriteFault h = tt
+  RunsItself-late seed N count o TapeFault h = tt
+  RunsItself-late seed N count o NoMemory h = tt
+  RunsItself-late seed N count o status h = absurd h.0
+
 Streams-late : (task : Task) (N : ℕ) (lines : List (List ℕ)) (bytes : List ℕ) (o : Outside) (status : Status) → Streams task N lines bytes o status →
     IsLate (Some (longest_message task)) bytes o.left_after status
 Streams-late task N lines bytes o Done h = (h.at_end, h.within)
@@ -69,6 +77,15 @@ Streams-late task N lines bytes o TapeFault h = tt
 Streams-late task N lines bytes o WriteFault h = tt
 Streams-late task N lines bytes o NoMemory h = tt
 Streams-late task N lines bytes o status h = absurd h
+
+-- a run that makes its own input has no fault of a key file or an input
+pub RunsItself-unread : (seed N count : ℕ) (o : Outside) (status : Status) → RunsItself seed N count o status →
+    (is_key_fault status ≡ false) × (is_read_fault status ≡ false)
+RunsItself-unread seed N count o Done h = (refl, refl)
+RunsItself-unread seed N count o WriteFault h = (refl, refl)
+RunsItself-unread seed N count o TapeFault h = (refl, refl)
+RunsItself-unread seed N count o NoMemory h = (refl, refl)
+RunsItself-unread seed N count o status h = absurd h.0
 
 abbrev pub DoesLate : Kind → Type 0
 DoesLate (OnCircuit checks cost bits Did) = (o : Outside) (text : List ℕ) (status : Status) → Did o text status → IsLate None text o.left_after status
@@ -85,3 +102,4 @@ does_late (jobs.Enc task order) words = λ o lines bytes status h. Streams-late 
 does_late (jobs.Split order) words = λ o lines bytes status h. Splits-late bytes o.left_after order (only_line lines) (sides o) status h
 does_late (jobs.Join order) words = λ o lines bytes status h. Writes-late bytes o.left_after (line_text (joined lines)) o.out_before o.out_after status h
 does_late (jobs.Emit circuit) words = λ o bytes status h. Emits-late bytes o.left_after (named circuit) o.out_before o.out_after status h
+does_late (jobs.SelfRun seed count order) words = λ o bytes status h. RunsItself-late bytes o.left_after seed (suc order) count o status h

@@ -29,6 +29,7 @@ LeavesInput (jobs.Enc task order) status = IsOfKeys status
 LeavesInput (jobs.Split order) status = Unit {0}
 LeavesInput (jobs.Join order) status = Unit {0}
 LeavesInput (jobs.Emit circuit) status = Unit {0}
+LeavesInput (jobs.SelfRun seed count order) status = Unit {0}
 LeavesInput job status = ⊥
 
 -- the job left the tape as it was: it has nothing to do with it, or ended before it was asked for anything
@@ -40,6 +41,7 @@ LeavesTape (jobs.Eval order) WriteFault = ⊥
 LeavesTape (jobs.Split order) Done = ⊥
 LeavesTape (jobs.Split order) TapeFault = ⊥
 LeavesTape (jobs.Split order) WriteFault = ⊥
+LeavesTape (jobs.SelfRun seed count order) status = ⊥
 LeavesTape job status = Unit {0}
 
 -- the job left the watch as it was: it wasn't even made ready
@@ -49,6 +51,7 @@ LeavesWatch (jobs.Eval order) Done = ⊥
 LeavesWatch (jobs.Eval order) TapeFault = ⊥
 LeavesWatch (jobs.Eval order) WriteFault = ⊥
 LeavesWatch (jobs.Eval order) NoMemory = ⊥
+LeavesWatch (jobs.SelfRun seed count order) status = ⊥
 LeavesWatch job status = Unit {0}
 
 -- the job told the watch nothing
@@ -56,6 +59,7 @@ abbrev pub TellsNothing : Job → Status → Type 0
 TellsNothing (jobs.Enc task order) status = IsOfKeys status
 TellsNothing (jobs.Eval order) Done = ⊥
 TellsNothing (jobs.Eval order) WriteFault = ⊥
+TellsNothing (jobs.SelfRun seed count order) status = ⊥
 TellsNothing job status = Unit {0}
 
 -- the job wrote nothing

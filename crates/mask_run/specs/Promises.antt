@@ -24,6 +24,7 @@ use Rattle.mask_secrets.specs.Joining.{Joins}
 use Rattle.mask_emit.specs.Emitting.{named, Emits}
 use Rattle.mask_message.specs.Outside.{Outside}
 use Rattle.mask_message.specs.Encrypting.{Streams}
+use Rattle.mask_self.specs.Selves.{RunsItself}
 use Rattle.mask_run.specs.Outside.{sides}
 use Rattle.mask_run.specs.Calls.{eval_bits}
 use Rattle.mask_run.specs.Evaluating.{Evaluated}
@@ -54,6 +55,7 @@ kind_of (jobs.Enc task order) words = OnKeys (suc order) (Exactly (key_bytes tas
 kind_of (jobs.Split order) words = OnKeys 1 Any None (λ o lines bytes status. Splits order (only_line lines) (sides o) status)
 kind_of (jobs.Join order) words = OnKeys (suc order) Any None (λ o lines bytes status. Joins o.out_before o.out_after lines status)
 kind_of (jobs.Emit circuit) words = OnWords (λ o status. Emits (named circuit) o.out_before o.out_after status)
+kind_of (jobs.SelfRun seed count order) words = OnWords (λ o status. RunsItself seed (suc order) count o status)
 
 -- how such a job ends where it took these bytes of the key file and of the input
 abbrev pub EndsOn : Kind → Outside → List ℕ → List ℕ → Status → Type 0

@@ -5,7 +5,7 @@ ghost use Rattle.mask_io.specs.Outside.{Rose, faults_after};
 ghost use Rattle.mask_circuit.specs.Netlist.{Netlist};
 ghost use Rattle.mask_text.specs.Text.{IsTextOf};
 ghost use Rattle.mask_text.specs.Answers.{TakesFront};
-ghost use Rattle.mask_words.specs.Jobs.{IsJob, IsRefused, HasOrder, HasWords};
+ghost use Rattle.mask_words.specs.Jobs.{IsJob, IsRefused, HasOrder, HasCount, HasWords};
 ghost use Rattle.mask_words.specs.declared.table.Job.{Job};
 ghost use Rattle.mask_status.specs.declared.status.Status.{Status};
 ghost use Rattle.mask_status.specs.Ends.{is_key_fault, is_read_fault, is_tape_fault, is_write_fault};
@@ -23,6 +23,7 @@ use mask_io::{Entropy, Sink, Source};
 use mask_keys::key_file_or_fault;
 use mask_message::enc;
 use mask_secrets::{join, split};
+use mask_self::self_run;
 use mask_status::Status;
 use mask_words::{BadWords, Job, Words, read_words, words_have_one_answer};
 use std::alloc::Global;
@@ -32,7 +33,8 @@ use std::sync::ledger::Ledger;
 ///
 /// Words that are no job are refused before anything is read. `enc` encrypts `input` under the key that `keys` has in shares, with
 /// coins from `tape`, batch by batch, and writes the ciphertext to `out`; `watch` is told of each evaluation. `split` and `join` make
-/// shares of a key and a key of shares; `emit` writes a circuit that is built in. `eval` reads a circuit text from `input` and
+/// shares of a key and a key of shares; `emit` writes a circuit that is built in; `self` encrypts a message that is made of a seed,
+/// and reports it in a line. `eval` reads a circuit text from `input` and
 /// evaluates it on shares; `check` says whether the circuit is accepted and whether it is strong, `upgrade` writes it in version 2 of
 /// the text, and `probe` says which input shares suffice for some wires. `steps` counts the values that the checker visits and the
 /// gates that are evaluated.
@@ -150,6 +152,7 @@ fn run_job<K: Source, S: Source, E: Entropy, O: Sink, W: Watch, L: Ledger>(
     steps: &mut Steps<L>,
 ) -> Status
     requires order { HasOrder job }
+    requires count { HasCount job }
     requires words { HasWords words.now job }
     ensures ends { Runs job words.now
         (record {
@@ -193,5 +196,8 @@ fn run_job<K: Source, S: Source, E: Entropy, O: Sink, W: Watch, L: Ledger>(
         Job::Split { order } => return split(alloc, order, keys, tape, out),
         Job::Join { order } => return join(order, keys, out),
         Job::Emit { circuit } => return emit(alloc, circuit, out, steps),
+        Job::SelfRun { seed, count, order } => {
+            return self_run(alloc, seed, count, order, tape, out, watch, steps);
+        }
     }
 }

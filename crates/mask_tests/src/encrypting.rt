@@ -121,11 +121,7 @@ fn encrypt(alloc: Global, given: &Given) -> Result<Outcome, AllocError> {
 }
 
 // The same on this message.
-fn encrypt_message(
-    alloc: Global,
-    given: &Given,
-    message: Vec<u8>,
-) -> Result<Outcome, AllocError> {
+fn encrypt_message(alloc: Global, given: &Given, message: Vec<u8>) -> Result<Outcome, AllocError> {
     let words = ["-", SEED, "enc", given.cipher, given.order, given.iv];
     let keys = Vec::from_slice(alloc, given.keys.as_bytes())?;
     let bytes = vec![in alloc; 0xa5u8; given.tape]?;
@@ -139,7 +135,31 @@ fn encrypt_message(
     run_on(alloc, &words, &mut keys, &mut input, &mut tape, &mut out)
 }
 
-// What is written is the standard's, and one byte of random bits less isn't enough.
+// The first of these cases that doesn't hold: so much is written, and so many calls are told; one byte of random bits less isn't
+// enough, and then nothing is written.
+fn first_wrong<'a>(
+    alloc: Global,
+    cases: &[(&'a str, Given, &[u8], usize)],
+) -> Result<Option<&'a str>, AllocError> {
+    for (name, given, written, calls) in cases {
+        let outcome = encrypt(alloc, given)?;
+        let short = Given {
+            tape: given.tape.saturating_sub(1),
+            ..*given
+        };
+        let cut = encrypt(alloc, &short)?;
+        let done = outcome.status == Status::Done
+            && outcome.written.as_slice() == *written
+            && outcome.watch.len() == *calls;
+        let fails = cut.status == Status::TapeFault && cut.written.is_empty();
+        if !done || (given.tape > 0 && !fails) {
+            return Ok(Some(*name));
+        }
+    }
+    Ok(None)
+}
+
+// What is written is the standard's.
 #[test]
 fn encrypts_zeros(rt: HostRuntime) -> Result<(), Fail> {
     let nine = Given {
@@ -151,37 +171,31 @@ fn encrypts_zeros(rt: HostRuntime) -> Result<(), Fail> {
         tape: 0,
         ..EIGHT
     };
-    let nothing_by_lea = Given {
-        zeros: 0,
-        tape: 0,
-        ..LEA_256
-    };
-    let cases: [(&str, Given, &[u8], usize); 9] = [
+    let cases: [(&str, Given, &[u8], usize); 5] = [
         ("eight", EIGHT, &FIRST, 1),
         ("at the highest order", HIGHEST, &FIRST, 1),
         ("two blocks", WRAPPED, &WRAPS, 2),
         ("nine", nine, &WRAPS[..9], 2),
         ("nothing", nothing, &[], 0),
-        ("by LEA", LEA_128, &BY_LEA_128, 1),
-        ("by LEA with 192 bits", LEA_192, &BY_LEA_192, 1),
-        ("by LEA with 256 bits", LEA_256, &BY_LEA_256, 1),
-        ("nothing by LEA", nothing_by_lea, &[], 0),
     ];
-    for (name, given, written, calls) in cases {
-        let outcome = encrypt(rt.alloc(), &given)?;
-        assert_eq!(rt; outcome.status, Status::Done, "{name}");
-        assert_eq!(rt; outcome.written.as_slice(), written, "{name}");
-        assert_eq!(rt; outcome.watch.len(), calls, "{name}");
-        if given.tape > 0 {
-            let short = Given {
-                tape: given.tape - 1,
-                ..given
-            };
-            let outcome = encrypt(rt.alloc(), &short)?;
-            assert_eq!(rt; outcome.status, Status::TapeFault, "{name}");
-            assert!(rt; outcome.written.is_empty(), "{name}");
-        }
-    }
+    assert_eq!(rt; first_wrong(rt.alloc(), &cases)?, None);
+    Ok(())
+}
+
+#[test]
+fn encrypts_zeros_by_lea(rt: HostRuntime) -> Result<(), Fail> {
+    let nothing = Given {
+        zeros: 0,
+        tape: 0,
+        ..LEA_256
+    };
+    let cases: [(&str, Given, &[u8], usize); 4] = [
+        ("128", LEA_128, &BY_LEA_128, 1),
+        ("192", LEA_192, &BY_LEA_192, 1),
+        ("256", LEA_256, &BY_LEA_256, 1),
+        ("nothing", nothing, &[], 0),
+    ];
+    assert_eq!(rt; first_wrong(rt.alloc(), &cases)?, None);
     Ok(())
 }
 

@@ -19,4 +19,6 @@ mod probing;
 #[cfg(test)]
 mod runs;
 #[cfg(test)]
+mod selves;
+#[cfg(test)]
 mod sizes;

@@ -1,5 +1,6 @@
-use Rattle.std.proofs.Common.{[], refl, inl}
+use Rattle.std.proofs.Common.{[], None, refl, inl}
 use Rattle.std.proofs.KnownBytes.{Consumes-nil}
+use Rattle.mask_run.proofs.Statuses.{RunsItself-unread}
 use Rattle.mask_run.proofs.Telling.{TellsSecureCalls-strong}
 use Rattle.mask_run.proofs.command.run_job.Goals as goal
 
@@ -53,6 +54,25 @@ returns-in-Emit-clause-ends g c =
     rw c.in-Emit.is
     (record { keys = []; keys_taken = Consumes-nil _; bytes = []; taken = Consumes-nil _; ends = c.emit.ensures.ends; costs = tt; asks = tt })
 
+pub returns-in-SelfRun-clause-ends : goal.returns-in-SelfRun-clause-ends
+returns-in-SelfRun-clause-ends g c =
+    rw c.in-SelfRun.is
+    (record {
+      keys = [];
+      keys_taken = Consumes-nil _;
+      bytes = [];
+      taken = Consumes-nil _;
+      ends = c.self_run.ensures.ends (g.K.Source.left c.args.keys.now) (g.S.Source.left c.args.input.now);
+      costs = tt;
+      asks = tt;
+    })
+
+pub returns-in-SelfRun-clause-key_faults : goal.returns-in-SelfRun-clause-key_faults
+returns-in-SelfRun-clause-key_faults g c = rw (RunsItself-unread _ _ _ _ c.self_run.result (c.self_run.ensures.ends None None)).0 refl
+
+pub returns-in-SelfRun-clause-input_faults : goal.returns-in-SelfRun-clause-input_faults
+returns-in-SelfRun-clause-input_faults g c = rw (RunsItself-unread _ _ _ _ c.self_run.result (c.self_run.ensures.ends None None)).1 refl
+
 -- CALLS
 
 pub returns-in-Enc-clause-secure : goal.returns-in-Enc-clause-secure
@@ -60,3 +80,9 @@ returns-in-Enc-clause-secure g c =
     let told = c.enc.ensures.secure in
     let order = rw c.in-Enc.is at c.requires.order in
     TellsSecureCalls-strong c.in-Enc.order _ _ order.0 order.1 told.0 told.1 told.2
+
+pub returns-in-SelfRun-clause-secure : goal.returns-in-SelfRun-clause-secure
+returns-in-SelfRun-clause-secure g c =
+    let told = c.self_run.ensures.secure in
+    let order = rw c.in-SelfRun.is at c.requires.order in
+    TellsSecureCalls-strong c.in-SelfRun.order _ _ order.0 order.1 told.0 told.1 told.2
