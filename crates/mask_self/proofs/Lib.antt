@@ -4,5 +4,6 @@ pub mod Ending
 mod GeneratorExamples
 pub mod Generating
 pub mod Keys
+mod SelfExamples
 pub mod SelfRuns
 pub mod Summing

@@ -9,6 +9,7 @@ use mask_io::{Failed, Source};
 use std::marker::Model;
 
 const MULTIPLIER: u64 = 6_364_136_223_846_793_005;
+
 const INCREMENT: u64 = 1_442_695_040_888_963_407;
 
 /// A generator that stands at a number of its sequence, and gives the bytes of those behind it.

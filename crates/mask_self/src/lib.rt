@@ -17,3 +17,6 @@ mod reporting;
 mod running;
 
 pub use running::self_run;
+
+#[cfg(test)]
+mod tests;

@@ -11,6 +11,7 @@ use itoa::Buffer;
 
 // How many products and refreshes the circuit of a block has, and that of fresh shares of the key.
 const BLOCK_GATES: u64 = 10_544;
+
 const KEY_GATES: u64 = 128;
 
 /// The XOR of the blocks of 16 bytes, the last one filled up with zeros.
