@@ -1,4 +1,4 @@
-use Rattle.std.proofs.Common.{◌≡◌, ℕ, ◌≤◌, List, length, None, Some, refl, sym, ap, ◌∙◌, arith}
+use Rattle.std.proofs.Common.{◌≡◌, ◌≤◌, length, None, Some, refl, sym, ap, ◌∙◌, arith}
 use Rattle.mask_tasks.specs.Tasks.{longest_message}
 use Rattle.mask_keys.specs.Lines.{joined}
 use Rattle.mask_ciphers.specs.Tasks.{output}
@@ -6,7 +6,7 @@ use Rattle.mask_self.specs.Generator.{bytes_from}
 use Rattle.mask_self.specs.Collecting.{Kept}
 use Rattle.mask_self.specs.Reports.{sum_of_blocks}
 use Rattle.mask_self.proofs.Carrying.{nothing-ran}
-use Rattle.mask_self.proofs.Ending.{ciphertext, runs_whole, fails_to_draw, breaks_off, whole_elsewhere, draws_elsewhere, breaks_elsewhere, never_fails, no_tape_fault, length-output}
+use Rattle.mask_self.proofs.Ending.{ciphertext, runs_whole, fails_to_draw, breaks_off, whole_elsewhere, draws_elsewhere, breaks_elsewhere, never_fails, length-output}
 use Rattle.mask_self.proofs.Generating.{length-bytes_from}
 use Rattle.mask_self.proofs.running.sum_of_run.Goals as goal
 
