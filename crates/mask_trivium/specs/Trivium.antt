@@ -6,7 +6,6 @@ use Rattle.mask_bits.specs.Reading.{low, number}
 use Rattle.mask_circuit.specs.Value.{xor}
 
 infixl 35 ◌⊕◌
-
 -- the sum of two bits
 abbrev pub ◌⊕◌ : Bool → Bool → Bool
 a ⊕ b = xor a b
