@@ -1,7 +1,11 @@
+pub mod Calling
 pub mod Clocking
+pub mod Concluding
 pub mod Counting
+pub mod Encrypting
 pub mod Passing
 pub mod Running
 pub mod Shifting
 pub mod Showing
+pub mod Starting
 mod TriviumVectors

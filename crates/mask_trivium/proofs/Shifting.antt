@@ -24,6 +24,9 @@ map-at f a b c n p q xs = map-set f (set (a ∷ take n xs) p b) q c ∙ rw (map-
 pub map-shifted : {A B : Type 0} (f : A → B) (a b c : A) (xs : List A) → map f (shifted a b c xs) ≡ shifted (f a) (f b) (f c) (map f xs)
 map-shifted f a b c xs = map-at f a b c 287 93 177 xs
 
+pub shifted-same : {A : Type 0} (a b c d e f : A) (xs : List A) → a ≡ d → b ≡ e → c ≡ f → shifted a b c xs ≡ shifted d e f xs
+shifted-same a b c d e f xs first second third = rw (first, second, third) refl
+
 -- LOADING
 
 map-replicate : {A B : Type 0} (f : A → B) (n : ℕ) (a : A) → map f (replicate n a) ≡ replicate n (f a)

@@ -10,10 +10,10 @@ use Rattle.mask_parts.specs.Tables.{part_usable, part_bits, is_part, with_part}
 use Rattle.mask_parts.proofs.PartGates.{usable-within, part_bits-solved}
 use Rattle.mask_parts.proofs.Solving.{Solves, Solves-left, Solves-right}
 use Rattle.mask_trivium.specs.Clocks.{Clock, Stage, stream, with_clock, with_clocks}
-use Rattle.mask_trivium.specs.Trivium.{clocked, clocks, outputs, output}
+use Rattle.mask_trivium.specs.Trivium.{clocked, clocks, outputs, output, next_first, next_second, next_third}
 use Rattle.mask_trivium.proofs.Clocking.{IsClock, IsClock-stream}
 use Rattle.mask_trivium.proofs.Running.{Grows-clocks, length-state}
-use Rattle.mask_trivium.proofs.Shifting.{map-shifted}
+use Rattle.mask_trivium.proofs.Shifting.{map-shifted, shifted-same}
 
 -- the bits vs solve all gates of the draft
 abbrev pub Solved : List Bool → Netlist → Type 0
@@ -58,11 +58,10 @@ module _ (k : Clock) (v : ℕ) (out : List Bool → List Bool) (is : IsClock k v
       let n = value_count t.draft in
       let bits : List Bool = shown vs t.state in
       map-shifted (value_at vs) (n + k.first) (n + k.second) (n + k.third) t.state
-      ∙ rw (
-        made k.first is.first_free ∙ is.first_made bits,
-        made k.second is.second_free ∙ is.second_made bits,
-        made k.third is.third_free ∙ is.third_made bits,
-      ) refl
+      ∙ shifted-same _ _ _ (next_first bits) (next_second bits) (next_third bits) bits
+      (made k.first is.first_free ∙ is.first_made bits)
+      (made k.second is.second_free ∙ is.second_made bits)
+      (made k.third is.third_free ∙ is.third_made bits)
 
   pub shown-output : shown vs (with_clock k t).outputs ≡ shown vs t.outputs ++ out (shown vs t.state)
   unfolding with_clock

@@ -72,8 +72,9 @@ pub(crate) fn setup_clock(b: &mut Builder, state: &mut State) -> Result<(), Circ
     ensures laid { Lays b.old (with_clock setup (stage b.old state.old [])).draft tt b.new result }
     ensures moved { OnOk result (state.new ≡ (with_clock setup (stage b.old state.old [])).state) }
 {
-    let values = lay(b, state, &setup_steps())?;
-    shift(state, values + 14, values + 6, values + 10);
+    let _values = b.values();
+    let first = lay(b, state, &setup_steps())?;
+    shift(state, first + 14, first + 6, first + 10);
     Ok(())
 }
 
@@ -83,7 +84,8 @@ pub(crate) fn stream_clock(b: &mut Builder, state: &mut State) -> Result<u32, Ci
     ensures laid { Lays b.old (with_clock stream (stage b.old state.old [])).draft (value_count b.old + 4) b.new result }
     ensures moved { OnOk result (state.new ≡ (with_clock stream (stage b.old state.old [])).state) }
 {
-    let values = lay(b, state, &stream_steps())?;
-    shift(state, values + 16, values + 8, values + 12);
-    Ok(values + 4)
+    let _values = b.values();
+    let first = lay(b, state, &stream_steps())?;
+    shift(state, first + 16, first + 8, first + 12);
+    Ok(first + 4)
 }

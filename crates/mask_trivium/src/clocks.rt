@@ -8,14 +8,17 @@ ghost use Rattle.mask_trivium.specs.Clocks.{setup, stream, stage, with_clocks};
 use crate::clock::{State, setup_clock, stream_clock};
 use mask_circuit::{Builder, CircuitError};
 
-/// Lays the 1152 clocks without output.
+// How many clocks there are without output.
+const SETUP_CLOCKS: usize = 1152;
+
+/// Lays the clocks without output.
 pub(crate) fn lay_setup(b: &mut Builder, state: &mut State) -> Result<(), CircuitError>
     requires { All (λ u. u < value_count b.old) state.old }
     ensures laid { Lays b.old (with_clocks setup 1152 (stage b.old state.old [])).draft tt b.new result }
     ensures moved { OnOk result (state.new ≡ (with_clocks setup 1152 (stage b.old state.old [])).state) }
 {
     let _values = b.values();
-    for clock in 0..1152 {
+    for _clock in 0..SETUP_CLOCKS {
         setup_clock(b, state)?;
     }
     Ok(())
