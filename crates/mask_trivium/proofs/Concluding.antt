@@ -72,7 +72,7 @@ pub record IsDone (T : Type 0) (c : Netlist) (us : List ℕ) : Type 0 where
   pub none : c.outputs ≡ []
   pub ready : All (IsReady T c) us
 
-pub Grows-fence : (c : Netlist) (us : List ℕ) → Grows c (with_fence c us)
+Grows-fence : (c : Netlist) (us : List ℕ) → Grows c (with_fence c us)
 unfolding with_fence
 Grows-fence c us = Grows-trans _ _ _ (Grows-with_gates c _) (Grows-with_outputs _ _)
 
@@ -108,10 +108,14 @@ done-start T =
     let runs = runs-start T in
     record { sound = runs.fine.sound; none = runs.passes.adds.outputs ∙ (unfold start stage with_gates in refl); ready = runs.fine.state }
 
--- what is laid between the two constants and the fence
+-- the parts in which it is laid
 pub Grows-set_up : Grows start.draft set_up.draft
 unfolding set_up
 Grows-set_up = Grows-clocks setup 1152 start
+
+pub Grows-named_start : Grows set_up.draft named_start
+unfolding named_start
+Grows-named_start = Grows-fence set_up.draft set_up.state
 
 inputs-start : set_up.draft.inputs ≡ 160
 inputs-start = (runs-start ⊥).passes.adds.inputs ∙ (unfold start stage with_gates in refl)
@@ -135,6 +139,10 @@ shown-start : (vs : List Bool) → Solved vs start.draft → shown vs start.stat
 unfolding start stage with_gates
 shown-start vs solved = map-loaded (value_at vs) 160 161 (range_with_len 0 80) (range_with_len 80 80) ∙ rw (solved.0, solved.1.0) refl
 
+shown-set_up : (vs : List Bool) → Solved vs set_up.draft → shown vs set_up.state ≡ clocks 1152 (shown vs start.state)
+unfolding set_up
+shown-set_up vs solved = shown-clocks setup 15 _ IsClock-setup vs 1152 start (IsFine-start ⊥).long solved
+
 bits-set_up : (x : List Bool) → length x ≡ set_up.draft.inputs → bits_of set_up.draft x set_up.state ≡ start_of_bits x
 unfolding bits_of start_of_bits started
 bits-set_up x long =
@@ -144,7 +152,7 @@ bits-set_up x long =
     let all : length x ≡ 160 = long ∙ inputs-start in
     let key : shown vs (range_with_len 0 80) ≡ take 80 x = bits-inputs m x 0 80 (omega arith) in
     let iv : shown vs (range_with_len 80 80) ≡ drop 80 x = bits-inputs m x 80 80 (omega arith) ∙ take_all 80 (drop 80 x) (rw (length-drop 80 x) (omega arith)) in
-    (unfold set_up in shown-clocks setup 15 _ IsClock-setup vs 1152 start (IsFine-start ⊥).long solved)
+    shown-set_up vs solved
     ∙ ap (clocks 1152) (shown-start vs (Solved-Grows vs start.draft m Grows-set_up solved) ∙ ap₂ (loaded false true) key iv)
 
 pub IsStrong-named_start : IsStrong named_start
@@ -158,7 +166,7 @@ IsCipherCircuit-named_start = IsCipherCircuit-done set_up.draft set_up.state (do
 
 -- A STEP
 
-runs-step : (T : Type 0) → Runs T given streamed (64 * 17) (64 * 3)
+pub runs-step : (T : Type 0) → Runs T given streamed (64 * 17) (64 * 3)
 unfolding streamed
 runs-step T = Runs-clocks T stream 17 _ IsClock-stream 64 given (IsFine-given T)
 
@@ -200,6 +208,7 @@ done-step T = record {
       (ready-results T);
 }
 
+-- the parts in which it is laid
 pub Grows-streamed : Grows given.draft streamed.draft
 unfolding streamed
 Grows-streamed = Grows-clocks stream 64 given
@@ -207,6 +216,10 @@ Grows-streamed = Grows-clocks stream 64 given
 pub Grows-encrypted : Grows streamed.draft encrypted
 unfolding encrypted
 Grows-encrypted = Grows-with_gates streamed.draft _
+
+pub Grows-named_step : Grows encrypted named_step
+unfolding named_step
+Grows-named_step = Grows-fence encrypted (streamed.state ++ results)
 
 inputs-step : encrypted.inputs ≡ 352
 inputs-step = (whole ⊥).adds.inputs ∙ (unfold given stage in refl)
@@ -226,24 +239,36 @@ size-named_step =
 pub IsWithinLimits-named_step : IsWithinLimits named_step
 IsWithinLimits-named_step = IsWithinLimits-sized named_step size_step size-named_step (lit≤ tt) (lit≤ tt)
 
+-- what bits that solve the clocks' gates say of the stage behind them
+shown-streamed : (vs : List Bool) (state : List Bool) → shown vs given.state ≡ state → Solved vs streamed.draft
+    → (shown vs streamed.state ≡ clocks 64 state) × (shown vs streamed.outputs ≡ outputs 64 state)
+unfolding streamed given stage
+shown-streamed vs state is solved = (
+  shown-clocks stream 17 _ IsClock-stream vs 64 given (IsFine-given ⊥).long solved ∙ ap (clocks 64) is,
+  shown-outputs vs 64 given (IsFine-given ⊥).long solved ∙ ap (outputs 64) is,
+)
+
+solved-encrypted : (vs : List Bool) → Solved vs encrypted → Solved vs streamed.draft × Solves vs (value_count streamed.draft) (xor_gates streamed.outputs message)
+unfolding encrypted
+solved-encrypted vs solved = Solved-with_gates vs streamed.draft _ solved
+
+shown-given : (c : Netlist) (x : List Bool) → length x ≡ 352 → shown (plain_values c x) given.state ≡ take 288 x
+unfolding given stage
+shown-given c x all = bits-inputs c x 0 288 (omega arith)
+
 bits-encrypted : (x : List Bool) → length x ≡ encrypted.inputs → bits_of encrypted x (streamed.state ++ results) ≡ step_of_bits x
 unfolding bits_of step_of_bits
 bits-encrypted x long =
     let m : Netlist = encrypted in
     let vs : List Bool = plain_values m x in
     let all : length x ≡ 352 = long ∙ inputs-step in
-    let gates : Solved vs streamed.draft × Solves vs (value_count streamed.draft) (xor_gates streamed.outputs message) =
-    unfold encrypted in Solved-with_gates vs streamed.draft _ (Solves-all m x long (whole ⊥).sound.formed) in
-    let state : shown vs given.state ≡ take 288 x = unfold given stage in bits-inputs m x 0 288 (omega arith) in
+    let solved = solved-encrypted vs (Solves-all m x long (whole ⊥).sound.formed) in
     let text : shown vs message ≡ drop 288 x = bits-inputs m x 288 64 (omega arith) ∙ take_all 64 (drop 288 x) (rw (length-drop 288 x) (omega arith)) in
-    let moved : shown vs streamed.state ≡ clocks 64 (take 288 x) =
-    (unfold streamed in shown-clocks stream 17 _ IsClock-stream vs 64 given (IsFine-given ⊥).long gates.0) ∙ ap (clocks 64) state in
-    let made : shown vs streamed.outputs ≡ outputs 64 (take 288 x) =
-    (unfold streamed given stage in shown-outputs vs 64 given (IsFine-given ⊥).long gates.0) ∙ ap (outputs 64) state in
+    let made = shown-streamed vs (take 288 x) (shown-given m x all) solved.0 in
     map-append (value_at vs) streamed.state results
-    ∙ ap₂ ◌++◌ moved
+    ∙ ap₂ ◌++◌ made.0
     (ap (λ (n : ℕ). shown vs (range_with_len (value_count streamed.draft) n)) (sym outputs-long)
-    ∙ shown-xors vs (value_count streamed.draft) streamed.outputs message outputs-long gates.1 ∙ ap₂ added made text)
+    ∙ shown-xors vs (value_count streamed.draft) streamed.outputs message outputs-long solved.1 ∙ ap₂ added made.1 text)
 
 pub IsStrong-named_step : IsStrong named_step
 unfolding named_step

@@ -41,8 +41,8 @@ module _ (k : Clock) (v : ℕ) (out : List Bool → List Bool) (is : IsClock k v
       let part : is_part (length t.state) k.steps ≡ true = rw long is.part in
       let bits = part_bits-solved vs (value_count t.draft) t.state k.steps part (Solved-with_gates vs t.draft _ solved).1 in
       sym (
-        ap (λ (bs : List Bool). value_at bs i) bits
-        ∙ get_or-map-range_with_len (value_at vs) (value_count t.draft) (length (part_usable k.steps)) i _ false (usable-within (part_usable k.steps) i usable) refl
+      ap (λ (bs : List Bool). value_at bs i) bits
+      ∙ get_or-map-range_with_len (value_at vs) (value_count t.draft) (length (part_usable k.steps)) i _ false (usable-within (part_usable k.steps) i usable) refl
       )
 
   -- so are several

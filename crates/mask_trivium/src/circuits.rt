@@ -1,6 +1,6 @@
 //! The circuits of Trivium.
 
-ghost use Rattle.std.specs.Prelude.{◌≡◌, ℕ, ◌+◌, ◌<◌, ◌≤◌, ◌^◌, List, [], length, All, IfOk, OnOk};
+ghost use Rattle.std.specs.Prelude.{◌≡◌, ℕ, ◌+◌, ◌<◌, ◌≤◌, ◌^◌, List, [], ◌++◌, length, All, IfOk};
 ghost use Rattle.std.specs.List.{range_with_len};
 ghost use Rattle.mask_circuit.specs.Netlist.{value_count, only_inputs};
 ghost use Rattle.mask_check.specs.Costs.{most_steps};
@@ -67,6 +67,17 @@ fn xor_all(b: &mut Builder, us: &[u32; 64], vs: &[u32; 64]) -> Result<(), Circui
     Ok(())
 }
 
+// The values of a state, and then 64 values in a row.
+fn followed(state: &State, first: u32) -> [u32; 352]
+    requires { first ≤ 1_000_000 }
+    ensures { result ≡ state.now ++ range_with_len first 64 }
+{
+    let mut values = [0; 352];
+    values[..288].copy_from_slice(state);
+    number_from(&mut values[288..], first);
+    values
+}
+
 // Lays a step on the inputs state and message.
 fn lay_step(b: &mut Builder) -> Result<(), CircuitError>
     requires { b.old ≡ only_inputs 352 }
@@ -79,10 +90,7 @@ fn lay_step(b: &mut Builder) -> Result<(), CircuitError>
     let outputs = lay_stream(b, &mut state)?;
     let first = b.values();
     xor_all(b, &outputs, &message)?;
-    let mut results = [0; 352];
-    results[..288].copy_from_slice(&state);
-    number_from(&mut results[288..], first);
-    fence_outputs(b, &results)
+    fence_outputs(b, &followed(&state, first))
 }
 
 fn start_circuit(alloc: Global) -> Result<Circuit, AllocError>
