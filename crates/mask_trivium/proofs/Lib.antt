@@ -1,4 +1,5 @@
 pub mod Calling
+mod ClockExamples
 pub mod Clocking
 pub mod Concluding
 pub mod Counting

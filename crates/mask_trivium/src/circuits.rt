@@ -35,9 +35,7 @@ fn load(zero: u32, one: u32) -> State
     let mut state = [zero; 288];
     number_from(&mut state[..80], 0);
     number_from(&mut state[93..173], 80);
-    state[285] = one;
-    state[286] = one;
-    state[287] = one;
+    state[285..].fill(one);
     state
 }
 
