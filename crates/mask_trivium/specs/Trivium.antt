@@ -18,15 +18,15 @@ bit_of state k = slice_index_or state (k - 1) false
 abbrev pub output : List Bool → Bool
 output state = let s = bit_of state in (s 66 ⊕ s 93) ⊕ (s 162 ⊕ s 177) ⊕ (s 243 ⊕ s 288)
 
--- what it puts into the second register, the third one and the first one
+-- what it puts into the first register, the second one and the third one
+abbrev pub next_first : List Bool → Bool
+next_first state = let s = bit_of state in s 243 ⊕ s 288 ⊕ (s 286 && s 287) ⊕ s 69
+
 abbrev pub next_second : List Bool → Bool
 next_second state = let s = bit_of state in s 66 ⊕ s 93 ⊕ (s 91 && s 92) ⊕ s 171
 
 abbrev pub next_third : List Bool → Bool
 next_third state = let s = bit_of state in s 162 ⊕ s 177 ⊕ (s 175 && s 176) ⊕ s 264
-
-abbrev pub next_first : List Bool → Bool
-next_first state = let s = bit_of state in s 243 ⊕ s 288 ⊕ (s 286 && s 287) ⊕ s 69
 
 -- Three values come in as s1, s94 and s178. Every other one is the one before it.
 abbrev pub shifted : {A : Type 0} → A → A → A → List A → List A
