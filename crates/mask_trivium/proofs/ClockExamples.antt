@@ -1,5 +1,5 @@
 -- The states and the clocks at worked examples, computed.
-use Rattle.std.proofs.Common.{◌≡◌, ◌+◌, [], ◌∷◌, length, take, drop, map, slice_index, refl}
+use Rattle.std.proofs.Common.{◌≡◌, [], ◌∷◌, length, take, drop, map, slice_index, refl}
 use Rattle.std.specs.List.{range_with_len}
 use Rattle.mask_circuit.specs.declared.gates.Gate.TheVariants.{Xor, And, Ref, Zero, One}
 use Rattle.mask_parts.specs.Drafts.{with_gates}

@@ -1,13 +1,13 @@
 -- The named circuits are strong, of their size, and compute Trivium.
-use Rattle.std.proofs.Common.{◌≡◌, ℕ, ◌+◌, ◌*◌, ◌-◌, ◌<◌, ◌≤◌, Bool, false, true, cond, List, [], ◌∷◌, ◌++◌, length, map, take, drop, All, refl, sym, ap, ap₂, ◌∙◌, arith, lit≤, length-append}
+use Rattle.std.proofs.Common.{◌≡◌, ℕ, ◌+◌, ◌*◌, ◌<◌, ◌≤◌, Bool, false, true, cond, List, [], ◌∷◌, ◌++◌, length, map, take, drop, All, refl, sym, ap, ap₂, ◌∙◌, arith, lit≤, length-append}
 use Rattle.std.specs.List.{range_with_len, count_by}
 use Rattle.std.proofs.lemmas.List.{length-map, length-drop, map-append, take_all}
 use Rattle.std.proofs.lemmas.List.Sums.{sum_by-cons}
 use Rattle.std.proofs.lemmas.List.FromFn.{length-range_with_len}
 use Rattle.std.proofs.lemmas.List.Elements.{All-append, All-nil}
 use Rattle.mask_circuit.specs.declared.gates.Gate.{Gate}
-use Rattle.mask_circuit.specs.declared.gates.Gate.TheVariants.{Zero, One, Ref}
-use Rattle.mask_circuit.specs.Netlist.{Netlist, IsCircuit, only_inputs, value_count, product_count, refresh_count, is_product, is_refresh}
+use Rattle.mask_circuit.specs.declared.gates.Gate.TheVariants.{Ref}
+use Rattle.mask_circuit.specs.Netlist.{Netlist, value_count, product_count, refresh_count, is_product, is_refresh}
 use Rattle.mask_circuit.specs.Value.{value_at, plain_values, plain}
 use Rattle.mask_circuit.specs.Acceptance.{IsStrong}
 use Rattle.mask_parts.specs.CipherCircuits.{Size, size_of, IsCipherCircuit}
@@ -17,7 +17,7 @@ use Rattle.mask_parts.proofs.Concluding.{IsStrong-tidy_fence, IsCipherCircuit-st
 use Rattle.mask_parts.proofs.Fencing.{IsWellFormed-fence, plain-with_fence}
 use Rattle.mask_parts.proofs.Growing.{inputs-with_gates, outputs-with_gates, value_count-with_gates, product_count-with_gates, refresh_count-with_gates, Grows-trans, Grows-with_gates, Grows-with_outputs}
 use Rattle.mask_parts.proofs.Solving.{Solves, Solves-all}
-use Rattle.mask_trivium.specs.Clocks.{Stage, setup, stream, stage}
+use Rattle.mask_trivium.specs.Clocks.{setup, stream, stage}
 use Rattle.mask_trivium.specs.NamedTrivium.{start, set_up, named_start, size_start, start_of_bits, given, streamed, xor_gates, encrypted, named_step, size_step, added, step_of_bits}
 use Rattle.mask_trivium.specs.Trivium.{loaded, clocks, outputs, started}
 use Rattle.mask_trivium.proofs.Clocking.{IsClock-setup, IsClock-stream}

@@ -1,14 +1,12 @@
 -- An XOR of each pair of two lists of values: what it keeps, and what it computes.
-use Rattle.std.proofs.Common.{◌≡◌, ℕ, zero, suc, ◌+◌, ◌<◌, ◌≤◌, Bool, List, [], ◌∷◌, length, map, All, refl, ap, ap₂, sym, ◌∙◌, subst, arith, add-one}
+use Rattle.std.proofs.Common.{◌≡◌, ℕ, suc, ◌<◌, ◌≤◌, Bool, List, [], ◌∷◌, length, All, refl, ap, ap₂, arith, add-one}
 use Rattle.std.specs.List.{range_with_len}
-use Rattle.std.proofs.lemmas.List.Elements.{All-nil, All-cons, All-head, All-tail, All-weaker}
-use Rattle.mask_circuit.specs.declared.gates.Gate.{Gate}
+use Rattle.std.proofs.lemmas.List.Elements.{All-nil, All-cons, All-head, All-tail}
 use Rattle.mask_circuit.specs.declared.gates.Gate.TheVariants.{Xor}
 use Rattle.mask_circuit.specs.Netlist.{Netlist, AreGates, value_count}
-use Rattle.mask_circuit.specs.Value.{value_at}
 use Rattle.mask_parts.specs.Drafts.{with_gates}
-use Rattle.mask_parts.specs.Tidiness.{IsFree, KeepsTidy}
-use Rattle.mask_parts.proofs.Growing.{value_count-with_gates, Grows-with_gates, AreGates-with_gates}
+use Rattle.mask_parts.specs.Tidiness.{KeepsTidy}
+use Rattle.mask_parts.proofs.Growing.{Grows-with_gates, AreGates-with_gates}
 use Rattle.mask_parts.proofs.Layering.{TakesFree, TakesFree-xor, KeepsTidy-layer}
 use Rattle.mask_parts.proofs.Solving.{Solves}
 use Rattle.mask_trivium.specs.NamedTrivium.{xor_gates, added}

@@ -1,5 +1,5 @@
 -- What shifting and loading a state keep, whatever its places hold.
-use Rattle.std.proofs.Common.{◌≡◌, ℕ, zero, suc, ◌+◌, List, [], ◌∷◌, ◌++◌, length, map, take, replicate, set, All, refl, ap, ◌∙◌, arith}
+use Rattle.std.proofs.Common.{◌≡◌, ℕ, zero, suc, List, ◌∷◌, length, map, take, replicate, set, All, refl, ap, ◌∙◌, arith}
 use Rattle.std.proofs.lemmas.List.{length-set, length-take-le, map-set, map-append, take-map}
 use Rattle.std.proofs.lemmas.List.Elements.{All-append, All-cons, All-replicate, All-set, All-take}
 use Rattle.mask_trivium.specs.Trivium.{shifted, loaded}

@@ -1,5 +1,5 @@
 -- The stages that the clocks begin with: they are whole, and their values are the input bits.
-use Rattle.std.proofs.Common.{◌≡◌, ℕ, zero, suc, ◌+◌, ◌<◌, ◌≤◌, Bool, false, true, Some, List, [], ◌∷◌, length, map, take, drop, All, refl, ap₂, subst, arith}
+use Rattle.std.proofs.Common.{◌≡◌, ℕ, zero, suc, ◌+◌, ◌<◌, ◌≤◌, Bool, false, Some, List, [], ◌∷◌, length, map, take, drop, All, refl, ap₂, subst, arith}
 use Rattle.std.specs.List.{range_with_len}
 use Rattle.std.proofs.lemmas.List.{drop_more}
 use Rattle.std.proofs.lemmas.List.Elements.{All-nil, All-cons}
@@ -15,7 +15,6 @@ use Rattle.mask_parts.proofs.Layering.{TakesFree, KeepsTidy-layer}
 use Rattle.mask_parts.proofs.Solving.{values_from-keeps}
 use Rattle.mask_trivium.specs.Clocks.{stage}
 use Rattle.mask_trivium.specs.NamedTrivium.{start, given}
-use Rattle.mask_trivium.specs.Trivium.{loaded}
 use Rattle.mask_trivium.proofs.Passing.{IsSound, IsReady}
 use Rattle.mask_trivium.proofs.Running.{IsFine}
 use Rattle.mask_trivium.proofs.Shifting.{All-loaded}

@@ -7,7 +7,7 @@ ghost use Rattle.mask_check.specs.Costs.{most_steps};
 ghost use Rattle.mask_parts.specs.CipherCircuits.{IsCipherCircuit};
 ghost use Rattle.mask_parts.specs.Drafts.{with_gates, Lays};
 ghost use Rattle.mask_trivium.specs.Clocks.{setup, stream};
-ghost use Rattle.mask_trivium.specs.NamedTrivium.{xor_gates, named_start, size_start, start_of_bits, named_step, size_step, step_of_bits};
+ghost use Rattle.mask_trivium.specs.NamedTrivium.{start, xor_gates, named_start, size_start, start_of_bits, named_step, size_step, step_of_bits};
 ghost use Rattle.mask_trivium.specs.Trivium.{loaded};
 
 use crate::clock::State;
@@ -39,15 +39,23 @@ fn load(zero: u32, one: u32) -> State
     state
 }
 
+// Lays the two constants. Ok is the state before the first clock.
+fn lay_constants(b: &mut Builder) -> Result<State, CircuitError>
+    requires { b.old ≡ only_inputs 160 }
+    ensures { Lays b.old start.draft start.state b.new result }
+{
+    let _values = b.values();
+    let zero = b.zero()?;
+    let one = b.one()?;
+    Ok(load(zero, one))
+}
+
 // Lays the start on the inputs key and IV.
 fn lay_start(b: &mut Builder) -> Result<(), CircuitError>
     requires { b.old ≡ only_inputs 160 }
     ensures { Lays b.old named_start tt b.new result }
 {
-    let _values = b.values();
-    let zero = b.zero()?;
-    let one = b.one()?;
-    let mut state = load(zero, one);
+    let mut state = lay_constants(b)?;
     lay_setup(b, &mut state)?;
     fence_outputs(b, &state)
 }

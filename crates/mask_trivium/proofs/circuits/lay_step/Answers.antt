@@ -1,4 +1,4 @@
-use Rattle.std.proofs.Common.{◌≡◌, ℕ, ◌++◌, List, [], refl, ap, ◌∙◌}
+use Rattle.std.proofs.Common.{◌≡◌, ℕ, ◌++◌, List, [], refl, ◌∙◌}
 use Rattle.std.specs.List.{range_with_len}
 use Rattle.mask_circuit.specs.Netlist.{Netlist, value_count, only_inputs}
 use Rattle.mask_parts.specs.Drafts.{Grows}
