@@ -1,0 +1,12 @@
+pub mod Calling
+mod ClockExamples
+pub mod Clocking
+pub mod Concluding
+pub mod Counting
+pub mod Encrypting
+pub mod Passing
+pub mod Running
+pub mod Shifting
+pub mod Showing
+pub mod Starting
+mod TriviumVectors

@@ -1,0 +1,6 @@
+use Rattle.mask_trivium.proofs.Concluding.{IsWithinLimits-named_start}
+use Rattle.mask_trivium.proofs.circuits.start_circuit.Goals as goal
+
+pub unreachable-requires-in-Err-TooManyValues : goal.unreachable-requires-in-Err-TooManyValues
+unreachable-requires-in-Err-TooManyValues c =
+    c.in-Err-TooManyValues.ensures.too_many c.in-Err-TooManyValues.field-0-is IsWithinLimits-named_start
