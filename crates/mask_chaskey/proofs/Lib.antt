@@ -1,1 +1,12 @@
+pub mod BlockNumbers
+pub mod Calling
 mod ChaskeyVectors
+pub mod Concluding
+pub mod Counting
+pub mod DoubledNumbers
+pub mod Lengthening
+pub mod Passing
+pub mod Running
+pub mod Showing
+pub mod Starting
+pub mod WordPassing
