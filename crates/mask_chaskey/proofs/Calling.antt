@@ -1,5 +1,5 @@
 -- Stages as calls know them: of values of the draft, and what a loop of steps has made of one.
-use Rattle.std.proofs.Common.{◌≡◌, ℕ, zero, suc, ◌+◌, ◌<◌, List, [], length, All, refl, ap, ◌∙◌, arith, add-one}
+use Rattle.std.proofs.Common.{◌≡◌, ℕ, zero, suc, ◌+◌, ◌<◌, List, [], length, All, refl, ap, ◌∙◌, subst, arith, add-one}
 use Rattle.std.proofs.lemmas.List.Elements.{All-get_or, All-weaker}
 use Rattle.mask_circuit.specs.Netlist.{Netlist, value_count}
 use Rattle.mask_parts.specs.Drafts.{Grows, IsWithinLimits}
@@ -52,6 +52,10 @@ unfolding stage
 IsFine-known c ws formed four known =
     record { sound = record { formed = formed; tidy = λ none. absurd none }; long = four; words = words-known c ws known }
 
+pub known-fine : (c : Netlist) (ws : List (List ℕ)) → IsFine ⊥ (stage c ws) → (length ws ≡ 4) × AreWordsOf c ws
+unfolding stage
+known-fine c ws fine = (fine.long, known-words ⊥ c ws fine.words)
+
 -- a stage by its parts
 pub stage-is : (c : Netlist) (ws : List (List ℕ)) (s : Stage) → ws ≡ s.block → c ≡ s.draft → stage c ws ≡ s
 unfolding stage
@@ -81,3 +85,11 @@ module _ (f : ℕ → Stage → Stage) (longer : (i : ℕ) (s : Stage) → Lengt
   pub left-run : i < n → Grows (f i now).draft (in_turn f n before).draft
   unfolding in_turn
   left-run few = rw has.is (Lengthens-in_turn f longer (suc i) n before (omega arith))
+
+-- after all steps
+pub HasRun-done : (f : ℕ → Stage → Stage) (before : Stage) (c : Netlist) (ws : List (List ℕ)) (n : ℕ) → HasRun f before (stage c ws) n
+    → (ws ≡ (in_turn f n before).block) × (c ≡ (in_turn f n before).draft) × IsWithinLimits (in_turn f n before).draft
+unfolding stage
+HasRun-done f before c ws n has =
+    let draft : c ≡ (in_turn f n before).draft = ap (λ (s : Stage). s.draft) has.is in
+    (ap (λ (s : Stage). s.block) has.is, draft, subst IsWithinLimits draft has.within)
