@@ -1,6 +1,6 @@
 -- The named circuits are strong, of their size, and compute a step and the ends of the code.
-use Rattle.std.proofs.Common.{◌≡◌, ℕ, ◌+◌, ◌*◌, ◌<◌, ◌≤◌, Bool, cond, List, [], ◌∷◌, ◌++◌, length, map, take, drop, All, refl, sym, ap, ap₂, ◌∙◌, arith, lit≤, bit_xor}
-use Rattle.std.specs.List.{concat, range_with_len, count_by}
+use Rattle.std.proofs.Common.{◌≡◌, ℕ, ◌+◌, ◌<◌, ◌≤◌, Bool, cond, List, [], ◌∷◌, ◌++◌, length, map, take, drop, All, refl, sym, ap, ap₂, ◌∙◌, arith, lit≤, bit_xor}
+use Rattle.std.specs.List.{concat, count_by}
 use Rattle.std.proofs.lemmas.List.{length-map, length-drop, take_all}
 use Rattle.std.proofs.lemmas.List.Sums.{sum_by-cons}
 use Rattle.std.proofs.lemmas.List.FromFn.{length-range_with_len}
@@ -13,7 +13,7 @@ use Rattle.mask_circuit.specs.Netlist.{Netlist, IsCircuit, IsWellFormed, only_in
 use Rattle.mask_circuit.specs.Value.{value_at, plain_values, plain}
 use Rattle.mask_circuit.specs.Acceptance.{IsStrong}
 use Rattle.mask_parts.specs.CipherCircuits.{Size, size_of, IsCipherCircuit}
-use Rattle.mask_parts.specs.Drafts.{with_gates, with_outputs, bits_of, Grows, IsWithinLimits}
+use Rattle.mask_parts.specs.Drafts.{with_outputs, bits_of, Grows, IsWithinLimits}
 use Rattle.mask_parts.specs.Fences.{with_fence}
 use Rattle.mask_parts.proofs.Concluding.{IsStrong-tidy_fence, IsCipherCircuit-strong}
 use Rattle.mask_parts.proofs.Fencing.{IsWellFormed-fence, plain-with_fence}
@@ -25,10 +25,10 @@ use Rattle.mask_chaskey.specs.Chaskey.{joined, permutation, last_mask, absorbed,
 use Rattle.mask_chaskey.specs.NamedChaskey.{block_from, with_last_mask, fenced, step_stage, end_stage, named_step, named_end, size_step, size_end, step_of_bits, end_of_bits}
 use Rattle.mask_chaskey.specs.Rounds.{Stage, stage, with_block_xored, with_permutation}
 use Rattle.mask_chaskey.proofs.BlockNumbers.{length-concat, All-concat, shown, shown-concat}
-use Rattle.mask_chaskey.proofs.Lengthening.{Lengthens, Lengthens-trans, Lengthens-block_xored, Lengthens-permutation, Lengthens-last_mask}
+use Rattle.mask_chaskey.proofs.Lengthening.{Lengthens, Lengthens-trans, Lengthens-block_xored, Lengthens-permutation}
 use Rattle.mask_chaskey.proofs.Passing.{IsReady, IsWord, Passes, Passes-trans}
 use Rattle.mask_chaskey.proofs.Running.{IsFine, Runs, Runs-trans, All-later, Runs-block_xored, Runs-permutation, mask_values, Runs-last_mask}
-use Rattle.mask_chaskey.proofs.Showing.{Solved, Solved-Grows, words_shown, block_shown, shown-block_xored, shown-permutation, shown-last_mask}
+use Rattle.mask_chaskey.proofs.Showing.{Solved, Solved-Grows, block_shown, shown-block_xored, shown-permutation, shown-last_mask}
 use Rattle.mask_chaskey.proofs.Starting.{length-block_from, words-block_from, IsFine-inputs, shown-block_from}
 
 -- SIZES
@@ -227,7 +227,7 @@ module _ (T : Type 0) (end : End) where
   Runs-mask = Runs-last_mask T end end_key (IsFine-inputs T 384 128 (lit≤ tt))
 
   -- the inputs behind the mask's gates
-  inputs_later : (a : ℕ) → a + 128 ≤ 384 → All (IsWord T (end_mask end).draft) (block_from a)
+  pub inputs_later : (a : ℕ) → a + 128 ≤ 384 → All (IsWord T (end_mask end).draft) (block_from a)
   inputs_later a within = All-later T end_key.draft (end_mask end).draft (mask_values end) 0 (block_from a) Runs-mask.passes (unfold stage in words-block_from T 384 a within)
 
   pub end_start-fine : IsFine T (end_start end)

@@ -1,5 +1,5 @@
 -- From stage to stage: each step keeps a stage whole, and adds so many values.
-use Rattle.std.proofs.Common.{◌≡◌, ℕ, zero, suc, ◌+◌, ◌*◌, ◌<◌, ◌≤◌, true, List, [], ◌++◌, length, take, drop, All, refl, ◌∙◌, arith, length-append, lit<, lit≤, slice_set}
+use Rattle.std.proofs.Common.{◌≡◌, ℕ, zero, suc, ◌+◌, ◌*◌, ◌<◌, ◌≤◌, true, List, [], ◌++◌, length, take, drop, All, refl, ◌∙◌, arith, length-append, lit<, slice_set}
 use Rattle.std.specs.List.{concat}
 use Rattle.std.proofs.lemmas.List.{length-set, length-take, length-drop}
 use Rattle.std.proofs.lemmas.List.Elements.{All-get_or, All-set, All-append, All-take, All-drop, All-weaker}
@@ -10,7 +10,7 @@ use Rattle.mask_parts.specs.Words32.{with_xor32, xor32_results, with_sum32, sum3
 use Rattle.mask_chaskey.specs.declared.doubling.End.{End}
 use Rattle.mask_chaskey.specs.declared.doubling.End.TheVariants.{Whole, Short}
 use Rattle.mask_chaskey.specs.Chaskey.{in_turn}
-use Rattle.mask_chaskey.specs.NamedChaskey.{four_words, doubling_steps, doubled_values, with_doubled, with_last_mask}
+use Rattle.mask_chaskey.specs.NamedChaskey.{doubling_steps, doubled_values, with_doubled, with_last_mask}
 use Rattle.mask_chaskey.specs.Rounds.{Stage, word, with_word_xored, with_block_xored, with_mixed, turned_block, with_turned, with_round, with_permutation}
 use Rattle.mask_chaskey.proofs.BlockNumbers.{length-four_words, All-four_words, length-concat, All-concat}
 use Rattle.mask_chaskey.proofs.Counting.{Counts}

@@ -1,5 +1,5 @@
 -- What the values of a stage stand for: where bits solve all gates, the rounds on values compute the rounds on numbers.
-use Rattle.std.proofs.Common.{◌≡◌, ℕ, zero, suc, ◌+◌, ◌*◌, ◌%◌, ◌^◌, ◌<◌, ◌≤◌, Bool, false, List, [], ◌∷◌, ◌++◌, length, map, take, drop, All, get_or, refl, sym, ap, ap₂, ◌∙◌, arith, lit<, add-one, bit_xor, slice_index, slice_set}
+use Rattle.std.proofs.Common.{◌≡◌, ℕ, zero, suc, ◌+◌, ◌%◌, ◌^◌, ◌<◌, ◌≤◌, Bool, false, List, [], ◌++◌, length, map, take, drop, All, refl, sym, ap, ap₂, ◌∙◌, arith, lit<, add-one, bit_xor, slice_index, slice_set}
 use Rattle.std.specs.List.{concat}
 use Rattle.std.proofs.Math.ListN.{get_or-map}
 use Rattle.std.proofs.lemmas.List.{length-map, map-set, map-append, take-map, drop-map, get_or-map as get_or-in_map}
@@ -23,9 +23,9 @@ use Rattle.mask_chaskey.specs.NamedChaskey.{four_words, doubling_steps, doubled_
 use Rattle.mask_chaskey.specs.Rounds.{Stage, word, with_word_xored, with_block_xored, with_mixed, turned_block, with_turned, with_round, with_permutation}
 use Rattle.mask_chaskey.proofs.BlockNumbers.{shown, shown-lt, shown-concat, words_of-joined, concat-four_words, word_xored, joined-xored}
 use Rattle.mask_chaskey.proofs.DoubledNumbers.{number-doubled}
-use Rattle.mask_chaskey.proofs.Lengthening.{Lengthens, Grows-xor32, Lengthens-word_xored, Lengthens-mixed, Lengthens-turned, Lengthens-doubled, first_mixed, second_mixed, third_mixed, last_mixed, Lengthens-last, Lengthens-round}
+use Rattle.mask_chaskey.proofs.Lengthening.{Grows-xor32, Lengthens-word_xored, Lengthens-mixed, Lengthens-turned, Lengthens-doubled, first_mixed, second_mixed, third_mixed, last_mixed, Lengthens-round}
 use Rattle.mask_chaskey.proofs.Passing.{IsWord}
-use Rattle.mask_chaskey.proofs.Running.{IsFine, word-at, Runs-word_xored, Runs-words_xored, Runs-mixed, Runs-first, Runs-second, Runs-third, Runs-last, Runs-rounds, Runs-permutation, length-us, length-doubled_values, Runs-doubled}
+use Rattle.mask_chaskey.proofs.Running.{IsFine, word-at, Runs-words_xored, Runs-mixed, Runs-first, Runs-second, Runs-third, Runs-last, Runs-rounds, length-us, length-doubled_values, Runs-doubled}
 
 -- the bits vs solve all gates of the draft
 abbrev pub Solved : List Bool → Netlist → Type 0

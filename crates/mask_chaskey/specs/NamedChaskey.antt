@@ -1,5 +1,5 @@
 -- The circuits of Chaskey: a step, and the two ends.
-use Rattle.std.specs.Prelude.{ℕ, ◌+◌, Bool, List, [], ◌∷◌, ◌++◌, take, drop, bit_xor, slice_set}
+use Rattle.std.specs.Prelude.{ℕ, ◌+◌, Bool, List, [], ◌∷◌, ◌++◌, take, drop, slice_set}
 use Rattle.std.specs.List.{range_with_len, concat}
 use Rattle.mask_bits.specs.Reading.{lowest, number}
 use Rattle.mask_circuit.specs.Netlist.{Netlist, value_count, only_inputs}

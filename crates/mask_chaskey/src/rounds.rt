@@ -9,6 +9,9 @@ use crate::blocks::Word;
 use crate::round::round;
 use mask_circuit::{Builder, CircuitError};
 
+// How many rounds there are.
+const ROUNDS: usize = 12;
+
 /// The block after all rounds.
 pub(crate) fn permute(b: &mut Builder, block: &[Word; 4]) -> Result<[Word; 4], CircuitError>
     requires { AreWordsOf b.old block.now }
@@ -16,7 +19,7 @@ pub(crate) fn permute(b: &mut Builder, block: &[Word; 4]) -> Result<[Word; 4], C
 {
     let _values = b.values();
     let mut state = *block;
-    for _ in 0..12 {
+    for _i in 0..ROUNDS {
         state = match round(b, &state) {
             Ok(state) => state,
             Err(e) => return Err(e),

@@ -57,9 +57,23 @@ fn doubles_the_key_twice_for_a_short_end(rt: HostRuntime) -> Result<(), Fail> {
     let strong = try_circuit(rt.alloc(), Some(End::Short))?;
     let gates = strong.admitted().circuit().gates();
     assert!(rt; gates.len() > 7);
-    assert!(rt; gates[..3] == [Gate::Xor(128, 255), Gate::Xor(129, 255), Gate::Xor(134, 255)]);
+    assert!(rt;
+        gates[..3]
+            == [
+                Gate::Xor(128, 255),
+                Gate::Xor(129, 255),
+                Gate::Xor(134, 255)
+            ]
+    );
     // Bit 127 of the double is bit 126 of the key, bit 0 its bit 127, bit 1 the first XOR, and bit 6 its bit 5.
-    assert!(rt; gates[3..6] == [Gate::Xor(255, 254), Gate::Xor(384, 254), Gate::Xor(133, 254)]);
+    assert!(rt;
+        gates[3..6]
+            == [
+                Gate::Xor(255, 254),
+                Gate::Xor(384, 254),
+                Gate::Xor(133, 254)
+            ]
+    );
     // The state's first bit with the block's.
     assert!(rt; gates[6..7] == [Gate::Xor(0, 256)]);
     Ok(())

@@ -1,10 +1,9 @@
-use Rattle.std.proofs.Common.{◌≡◌, ℕ, ◌+◌, ◌<◌, ◌≤◌, List, length, refl, ap, ◌∙◌, subst, arith, slice_set}
+use Rattle.std.proofs.Common.{◌≡◌, ℕ, ◌+◌, ◌<◌, ◌≤◌, List, length, refl, arith, slice_set}
 use Rattle.mask_circuit.specs.Netlist.{Netlist, IsCircuit, value_count}
 use Rattle.mask_parts.specs.Drafts.{Grows, IsWithinLimits}
 use Rattle.mask_parts.specs.Words32.{with_xor32, xor32_results}
 use Rattle.mask_parts.proofs.Laying.{IsWithinLimits-circuit, IsRefused-within}
-use Rattle.mask_chaskey.specs.Chaskey.{in_turn}
-use Rattle.mask_chaskey.specs.Rounds.{Stage, stage, word, with_word_xored, with_block_xored, AreWordsOf}
+use Rattle.mask_chaskey.specs.Rounds.{stage, word, with_word_xored, with_block_xored, AreWordsOf}
 use Rattle.mask_chaskey.proofs.Calling.{AreOf-Grows, AreOf-word, words-known, IsFine-known, known-fine, HasRun, HasRun-none, HasRun-more, HasRun-done, begun-run, left-run}
 use Rattle.mask_chaskey.proofs.Lengthening.{Lengthens-word_xored}
 use Rattle.mask_chaskey.proofs.Running.{Runs-words_xored}

@@ -1,5 +1,5 @@
-use Rattle.std.proofs.Common.{◌≡◌, ℕ, List, length, refl, ap, ◌∙◌}
-use Rattle.mask_circuit.specs.Netlist.{Netlist, IsCircuit, value_count}
+use Rattle.std.proofs.Common.{◌≡◌, ℕ, List, length, refl}
+use Rattle.mask_circuit.specs.Netlist.{Netlist, IsCircuit}
 use Rattle.mask_parts.specs.Drafts.{Grows}
 use Rattle.mask_parts.proofs.Growing.{Grows-refl}
 use Rattle.mask_parts.proofs.Laying.{Lays-exit, Lays-last}
