@@ -6,6 +6,7 @@ pub mod Counting
 pub mod DoubledNumbers
 pub mod Lengthening
 pub mod Passing
+mod RoundExamples
 pub mod Running
 pub mod Showing
 pub mod Starting

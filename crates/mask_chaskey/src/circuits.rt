@@ -24,8 +24,8 @@ fn lay_step(b: &mut Builder) -> Result<(), CircuitError>
 {
     let _values = b.values();
     let xored = xor_blocks(b, &block_from(0), &block_from(128))?;
-    let state = permute(b, &xored)?;
-    fence_outputs(b, &all_values(&state))
+    let permuted = permute(b, &xored)?;
+    fence_outputs(b, &all_values(&permuted))
 }
 
 // The inputs are the state, then the key, then the last block.

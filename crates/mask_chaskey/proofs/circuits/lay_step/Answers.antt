@@ -40,22 +40,22 @@ permute-requires c =
     let xored = rw (start, c.block_from-2.ensures) at c.in_ok-xored.ensures in
     rw (xored.0, xored.1) (known-words ⊥ _ _ (Runs-step_xored ⊥).fine.words)
 
-pub returns-in_err-state : goal.returns-in_err-state
+pub returns-in_err-permuted : goal.returns-in_err-permuted
 unfolding named_step step_stage
-returns-in_err-state c =
+returns-in_err-permuted c =
     let b = c.args.b.now in
     let start = start-is b _ c.requires c.block_from.ensures in
     let xored = rw (start, c.block_from-2.ensures) at c.in_ok-xored.ensures in
-    Lays-exit b step_xored.draft step_stage.draft _ _ _ _ _ c.from_residual-in_err-state.ensures.1 (begun b c.requires) (Grows-fenced step_stage)
-    (rw (stage-is _ _ step_xored xored.0 xored.1, xored.1) at c.in_err-state.ensures)
+    Lays-exit b step_xored.draft step_stage.draft _ _ _ _ _ c.from_residual-in_err-permuted.ensures.1 (begun b c.requires) (Grows-fenced step_stage)
+    (rw (stage-is _ _ step_xored xored.0 xored.1, xored.1) at c.in_err-permuted.ensures)
 
 pub fence_outputs-requires : goal.fence_outputs-requires
 unfolding step_stage
 fence_outputs-requires c =
     let start = start-is c.args.b.now _ c.requires c.block_from.ensures in
     let xored = rw (start, c.block_from-2.ensures) at c.in_ok-xored.ensures in
-    let state = rw (stage-is _ _ step_xored xored.0 xored.1) at c.in_ok-state.ensures in
-    rw (c.all_values.ensures, state.0, state.1) (known-us 256 step_stage _ _ CameOut-step)
+    let permuted = rw (stage-is _ _ step_xored xored.0 xored.1) at c.in_ok-permuted.ensures in
+    rw (c.all_values.ensures, permuted.0, permuted.1) (known-us 256 step_stage _ _ CameOut-step)
 
 pub returns : goal.returns
 unfolding named_step step_stage fenced
@@ -63,6 +63,6 @@ returns c =
     let b = c.args.b.now in
     let start = start-is b _ c.requires c.block_from.ensures in
     let xored = rw (start, c.block_from-2.ensures) at c.in_ok-xored.ensures in
-    let state = rw (stage-is _ _ step_xored xored.0 xored.1) at c.in_ok-state.ensures in
+    let permuted = rw (stage-is _ _ step_xored xored.0 xored.1) at c.in_ok-permuted.ensures in
     Lays-last b step_stage.draft _ _ _ _ _ _ (Grows-trans b step_xored.draft step_stage.draft (begun b c.requires) (Lengthens-permutation step_xored)) refl refl
-    (rw (c.all_values.ensures, state.0, state.1) at c.fence_outputs.ensures.laid)
+    (rw (c.all_values.ensures, permuted.0, permuted.1) at c.fence_outputs.ensures.laid)
