@@ -6,7 +6,8 @@ use Rattle.mask_circuit.specs.Netlist.{only_inputs}
 use Rattle.mask_parts.specs.Drafts.{with_gates}
 use Rattle.mask_parts.specs.Tables.{with_part}
 use Rattle.mask_parts.specs.Words32.{xor32_steps, xor32_gates, with_xor32, xor32_results, sum32_steps, sum32_gates, with_sum32, sum32_results, rotated32}
-use Rattle.mask_chaskey.specs.Chaskey.{in_turn, doubled, padded, block_at, blocks_before}
+use Rattle.mask_chaskey.specs.declared.doubling.End.TheVariants.{Whole, Short}
+use Rattle.mask_chaskey.specs.Chaskey.{in_turn, doubled, block_at, blocks_before, last_bytes, end_of, padded}
 use Rattle.mask_chaskey.specs.NamedChaskey.{four_words, block_from, doubling_steps, doubled_values, with_doubled}
 use Rattle.mask_chaskey.specs.Rounds.{stage, word, with_word_xored, with_block_xored, with_mixed, turned_block, with_turned, with_round}
 
@@ -46,13 +47,17 @@ doubled_numbers : (doubled 1 ≡ 2) × (doubled (2 ^ 127) ≡ 0x87) × (doubled 
 unfolding doubled
 doubled_numbers = (refl, refl, refl)
 
--- of no byte up to 16 there is no block before the last one; a whole last block isn't followed by an empty one
+-- Up to 16 bytes there is no block before the last one. A whole block isn't followed by an empty one.
 counts : map (λ n. blocks_before (replicate n 7)) (0 ∷ 1 ∷ 16 ∷ 17 ∷ 32 ∷ 33 ∷ []) ≡ 0 ∷ 0 ∷ 0 ∷ 1 ∷ 1 ∷ 2 ∷ []
 unfolding blocks_before
 counts = refl
 
+ends : map (λ n. end_of (replicate n 7)) (0 ∷ 1 ∷ 16 ∷ 17 ∷ 32 ∷ 33 ∷ []) ≡ Short ∷ Short ∷ Whole ∷ Short ∷ Whole ∷ Short ∷ []
+unfolding end_of last_bytes blocks_before
+ends = refl
+
 -- a one stands behind the bytes that are left, and zeros up to 16
-padded_bytes : (padded (5 ∷ 6 ∷ []) ≡ (5 ∷ 6 ∷ 1 ∷ []) ++ replicate 13 0) × (padded [] ≡ 1 ∷ replicate 15 0)
+padded_bytes : (padded Short (5 ∷ 6 ∷ []) ≡ (5 ∷ 6 ∷ 1 ∷ []) ++ replicate 13 0) × (padded Short [] ≡ 1 ∷ replicate 15 0)
 unfolding padded
 padded_bytes = (refl, refl)
 

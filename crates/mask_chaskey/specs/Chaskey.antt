@@ -81,29 +81,36 @@ unfoldable pub bytes_of : ℕ → ℕ → List ℕ
 bytes_of zero a = []
 bytes_of (suc n) a = a % 256 ∷ bytes_of n (a / 256)
 
--- a last block of fewer than 16 bytes, with a one and zeros behind it
-unfoldable pub padded : List ℕ → List ℕ
-padded rest = rest ++ (1 ∷ replicate (15 - length rest) 0)
-
 -- block i of a message
 unfoldable pub block_at : List ℕ → ℕ → ℕ
 block_at message i = number_of (take 16 (drop (16 * i) message))
 
--- how many blocks come before the last one, which is empty only where the message is
+-- how many blocks come before the last one
 unfoldable pub blocks_before : List ℕ → ℕ
 blocks_before message = (length message - 1) / 16
+
+-- the bytes of the last one: 16 or fewer, and none only where the message has none
+unfoldable pub last_bytes : List ℕ → List ℕ
+last_bytes message = drop (16 * blocks_before message) message
+
+-- how the message ends
+unfoldable pub end_of : List ℕ → End
+end_of message = if length (last_bytes message) == 16 then Whole else Short
+
+-- the bytes of a last block: behind fewer than 16 come a one and zeros
+unfoldable pub padded : End → List ℕ → List ℕ
+padded Whole bytes = bytes
+padded Short bytes = bytes ++ (1 ∷ replicate (15 - length bytes) 0)
+
+unfoldable pub last_block : List ℕ → ℕ
+last_block message = number_of (padded (end_of message) (last_bytes message))
 
 -- the state before the last block: it begins as the key
 unfoldable pub state_before_last : ℕ → List ℕ → ℕ
 state_before_last key message = in_turn (λ i h. absorbed h (block_at message i)) (blocks_before message) key
 
--- the state at the end
-unfoldable pub state_at_end : ℕ → List ℕ → ℕ
-state_at_end key message =
-    let h = state_before_last key message in
-    let rest = drop (16 * blocks_before message) message in
-    if length rest == 16 then finished Whole key h (number_of rest) else finished Short key h (number_of (padded rest))
-
 -- the tag of 8 or 16 bytes of a message under a key of 16 bytes
 unfoldable pub chaskey_mac : List ℕ → List ℕ → ℕ → List ℕ
-chaskey_mac key message tag_bytes = bytes_of tag_bytes (state_at_end (number_of key) message)
+chaskey_mac key message tag_bytes =
+    let k = number_of key in
+    bytes_of tag_bytes (finished (end_of message) k (state_before_last k message) (last_block message))
