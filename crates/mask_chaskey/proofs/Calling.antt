@@ -30,10 +30,6 @@ AreOf-sum32 c x y = rw (value_count-with_sum32 c x y) (sum32_results-below (valu
 pub AreOf-word : (c : Netlist) (ws : List (List ℕ)) (k : ℕ) → k < length ws → AreWordsOf c ws → AreOf c (word ws k)
 AreOf-word c ws k inside known = (All-get_or (λ w. (length w ≡ 32) × AreOf c w) ws k [] inside known).1
 
-pub AreWordsOf-Grows : (c d : Netlist) (ws : List (List ℕ)) → Grows c d → AreWordsOf c ws → AreWordsOf d ws
-AreWordsOf-Grows c d ws grows known =
-    All-weaker (λ w. (length w ≡ 32) × AreOf c w) (λ w. (length w ≡ 32) × AreOf d w) (λ w is. (is.0, AreOf-Grows c d w grows is.1)) ws known
-
 -- STAGES
 
 pub words-known : (c : Netlist) (ws : List (List ℕ)) → AreWordsOf c ws → All (IsWord ⊥ c) ws

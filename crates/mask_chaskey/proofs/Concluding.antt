@@ -1,12 +1,13 @@
 -- The named circuits are strong, of their size, and compute a step and the ends of the code.
-use Rattle.std.proofs.Common.{◌≡◌, ℕ, ◌+◌, ◌<◌, ◌≤◌, Bool, cond, List, [], ◌∷◌, ◌++◌, length, map, take, drop, All, refl, sym, ap, ap₂, ◌∙◌, arith, lit≤, bit_xor}
+use Rattle.std.proofs.Common.{◌≡◌, ℕ, ◌+◌, ◌^◌, ◌<◌, ◌≤◌, Bool, cond, List, [], ◌∷◌, ◌++◌, length, map, take, drop, All, refl, sym, ap, ap₂, ◌∙◌, arith, lit≤, bit_xor}
 use Rattle.std.specs.List.{concat, count_by}
+use Rattle.std.proofs.Math.Nat.{mod-eq_of_lt}
 use Rattle.std.proofs.lemmas.List.{length-map, length-drop, take_all}
 use Rattle.std.proofs.lemmas.List.Sums.{sum_by-cons}
 use Rattle.std.proofs.lemmas.List.FromFn.{length-range_with_len}
 use Rattle.std.proofs.lemmas.List.Elements.{All-nil, All-weaker}
 use Rattle.mask_bits.specs.Reading.{number, lowest}
-use Rattle.mask_bits.proofs.Numbers.{lowest-of}
+use Rattle.mask_bits.proofs.Numbers.{lowest-of, number-lowest, number-lt}
 use Rattle.mask_circuit.specs.declared.gates.Gate.{Gate}
 use Rattle.mask_circuit.specs.declared.gates.Gate.TheVariants.{Ref}
 use Rattle.mask_circuit.specs.Netlist.{Netlist, IsCircuit, IsWellFormed, only_inputs, value_count, product_count, refresh_count, is_product, is_refresh}
@@ -130,6 +131,14 @@ module _ (n : ℕ) (s : Stage) (v p : ℕ) (out : CameOut n s v p) where
       ∙ ap (λ (bs : List Bool). bs ++ bits) nothing
       ∙ sym (lowest-of bits _ 128 read bits_long)
 
+  -- which is the number of 128 bits
+  number-fenced : (vs : List Bool) → number (lowest 128 (block_shown vs s)) ≡ block_shown vs s
+  number-fenced vs =
+      let read : block_shown vs s ≡ shown vs us = sym (shown-concat ⊥ vs s.draft s.block (out.fine ⊥).words) in
+      let long : length (map (value_at vs) us) ≡ 128 = length-map us (value_at vs) ∙ us-long in
+      let small : block_shown vs s < 2 ^ 128 = rw read (rw long at (number-lt (map (value_at vs) us))) in
+      number-lowest 128 (block_shown vs s) ∙ mod-eq_of_lt small
+
 -- bits up to the end
 rest_of : (x : List Bool) (a : ℕ) → length x ≡ a + 128 → take 128 (drop a x) ≡ drop a x
 rest_of x a long = take_all 128 (drop a x) (rw (length-drop a x) (omega arith))
@@ -174,6 +183,11 @@ step_computes x long =
     let block : joined (map (shown vs) (block_from 128)) ≡ number (drop 128 x) = shown-block_from step_stage.draft x 128 (omega arith) ∙ ap number (rest_of x 128 long) in
     let xored = shown-block_xored ⊥ vs (block_from 128) step_start (length-block_from 128) (step_block ⊥) (step_start-fine ⊥) solved_xored in
     step_permuted vs solved ∙ ap permutation (xored ∙ ap₂ bit_xor state block)
+
+-- the number of the outputs
+pub number-step_of_bits : (x : List Bool) → length x ≡ 256 → number (step_of_bits x) ≡ absorbed (number (take 128 x)) (number (drop 128 x))
+unfolding step_of_bits
+number-step_of_bits x long = rw (sym (step_computes x long)) (number-fenced 256 step_stage _ _ CameOut-step (plain_values step_stage.draft x))
 
 pub size-named_step : size_of named_step ≡ size_step
 unfolding named_step
@@ -311,6 +325,13 @@ end_computes end x long =
     (Solved-Grows vs _ whole (left-masked end) solved) ∙ ap₂ bit_xor xored mask in
     let permuted = shown-permutation ⊥ vs (end_masked end) (Runs-end_masked ⊥ end).fine (Solved-Grows vs _ whole (left-permuted end) solved) ∙ ap permutation masked in
     end_xored_last end vs solved ∙ ap₂ bit_xor permuted mask
+
+-- the number of the outputs
+pub number-end_of_bits : (end : End) (x : List Bool) → length x ≡ 384
+    → number (end_of_bits end x) ≡ finished end (number (take 128 (drop 128 x))) (number (take 128 x)) (number (drop 256 x))
+unfolding end_of_bits
+number-end_of_bits end x long =
+    rw (sym (end_computes end x long)) (number-fenced 384 (end_stage end) _ _ (CameOut-end end) (plain_values (end_stage end).draft x))
 
 pub size-named_end : (end : End) → size_of (named_end end) ≡ size_end end
 unfolding named_end

@@ -10,4 +10,5 @@ mod RoundExamples
 pub mod Running
 pub mod Showing
 pub mod Starting
+pub mod Tags
 pub mod WordPassing

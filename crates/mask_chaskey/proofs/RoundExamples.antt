@@ -1,5 +1,5 @@
 -- The rounds, the doubling and the blocks of a message at worked examples, computed.
-use Rattle.std.proofs.Common.{◌≡◌, ℕ, ◌+◌, ◌^◌, List, [], ◌∷◌, ◌++◌, length, take, drop, map, replicate, refl}
+use Rattle.std.proofs.Common.{◌≡◌, ◌+◌, ◌^◌, [], ◌∷◌, ◌++◌, length, take, drop, map, replicate, refl}
 use Rattle.std.specs.List.{range_with_len}
 use Rattle.mask_circuit.specs.declared.gates.Gate.TheVariants.{Xor, And, Ref}
 use Rattle.mask_circuit.specs.Netlist.{only_inputs}
