@@ -22,7 +22,6 @@ fn lay_step(b: &mut Builder) -> Result<(), CircuitError>
     requires { b.old ≡ only_inputs 256 }
     ensures { Lays b.old named_step tt b.new result }
 {
-    let _values = b.values();
     let xored = xor_blocks(b, &block_from(0), &block_from(128))?;
     let permuted = permute(b, &xored)?;
     fence_outputs(b, &all_values(&permuted))
@@ -33,7 +32,6 @@ fn lay_end(b: &mut Builder, end: End) -> Result<(), CircuitError>
     requires { b.old ≡ only_inputs 384 }
     ensures { Lays b.old (named_end end) tt b.new result }
 {
-    let _values = b.values();
     let mask = last_mask(b, end, &block_from(128))?;
     let xored = xor_blocks(b, &block_from(0), &block_from(256))?;
     let masked = xor_blocks(b, &xored, &mask)?;
@@ -77,7 +75,6 @@ pub fn chaskey_step<L: Ledger>(alloc: Global, steps: &mut Steps<L>) -> Result<St
     ensures steps { steps.new ≤ steps.old + most_steps named_step }
 {
     let circuit = step_circuit(alloc)?;
-    let _values = circuit.values();
     strong_circuit(alloc, circuit, steps)
 }
 
@@ -91,7 +88,6 @@ fn chaskey_end<L: Ledger>(
     ensures steps { steps.new ≤ steps.old + most_steps (named_end end) }
 {
     let circuit = end_circuit(alloc, end)?;
-    let _values = circuit.values();
     strong_circuit(alloc, circuit, steps)
 }
 
