@@ -1,0 +1,363 @@
+-- The named circuits are strong, of their size, and compute a step and the ends of the code.
+use Rattle.std.proofs.Common.{◌≡◌, ℕ, ◌+◌, ◌^◌, ◌<◌, ◌≤◌, Bool, cond, List, [], ◌∷◌, ◌++◌, length, map, take, drop, All, refl, sym, ap, ap₂, ◌∙◌, arith, lit≤, bit_xor}
+use Rattle.std.specs.List.{concat, count_by}
+use Rattle.std.proofs.Math.Nat.{mod-eq_of_lt}
+use Rattle.std.proofs.lemmas.List.{length-map, length-drop, take_all}
+use Rattle.std.proofs.lemmas.List.Sums.{sum_by-cons}
+use Rattle.std.proofs.lemmas.List.FromFn.{length-range_with_len}
+use Rattle.std.proofs.lemmas.List.Elements.{All-nil, All-weaker}
+use Rattle.mask_bits.specs.Reading.{number, lowest}
+use Rattle.mask_bits.proofs.Numbers.{lowest-of, number-lowest, number-lt}
+use Rattle.mask_circuit.specs.declared.gates.Gate.{Gate}
+use Rattle.mask_circuit.specs.declared.gates.Gate.TheVariants.{Ref}
+use Rattle.mask_circuit.specs.Netlist.{Netlist, IsCircuit, IsWellFormed, only_inputs, value_count, product_count, refresh_count, is_product, is_refresh}
+use Rattle.mask_circuit.specs.Value.{value_at, plain_values, plain}
+use Rattle.mask_circuit.specs.Acceptance.{IsStrong}
+use Rattle.mask_parts.specs.CipherCircuits.{Size, size_of, IsCipherCircuit}
+use Rattle.mask_parts.specs.Drafts.{with_outputs, bits_of, Grows, IsWithinLimits}
+use Rattle.mask_parts.specs.Fences.{with_fence}
+use Rattle.mask_parts.proofs.Concluding.{IsStrong-tidy_fence, IsCipherCircuit-strong}
+use Rattle.mask_parts.proofs.Fencing.{IsWellFormed-fence, plain-with_fence}
+use Rattle.mask_parts.proofs.Growing.{inputs-with_gates, outputs-with_gates, value_count-with_gates, product_count-with_gates, refresh_count-with_gates, Grows-trans, Grows-with_gates, Grows-with_outputs}
+use Rattle.mask_parts.proofs.Solving.{Solves-all}
+use Rattle.mask_chaskey.specs.declared.doubling.End.{End}
+use Rattle.mask_chaskey.specs.declared.doubling.End.TheVariants.{Whole, Short}
+use Rattle.mask_chaskey.specs.Chaskey.{joined, permutation, last_mask, absorbed, finished}
+use Rattle.mask_chaskey.specs.NamedChaskey.{block_from, with_last_mask, fenced, step_stage, end_stage, named_step, named_end, size_step, size_end, step_of_bits, end_of_bits}
+use Rattle.mask_chaskey.specs.Rounds.{Stage, stage, with_block_xored, with_permutation}
+use Rattle.mask_chaskey.proofs.BlockNumbers.{length-concat, All-concat, shown, shown-concat}
+use Rattle.mask_chaskey.proofs.Lengthening.{Lengthens, Lengthens-trans, Lengthens-block_xored, Lengthens-permutation}
+use Rattle.mask_chaskey.proofs.Passing.{IsReady, IsWord, Passes, Passes-trans}
+use Rattle.mask_chaskey.proofs.Running.{IsFine, Runs, Runs-trans, All-later, Runs-block_xored, Runs-permutation, mask_values, Runs-last_mask}
+use Rattle.mask_chaskey.proofs.Showing.{Solved, Solved-Grows, block_shown, shown-block_xored, shown-permutation, shown-last_mask}
+use Rattle.mask_chaskey.proofs.Starting.{length-block_from, words-block_from, IsFine-inputs, shown-block_from}
+
+-- SIZES
+
+products-refs : (us : List ℕ) → count_by is_product (map Ref us) ≡ 0
+products-refs [] = refl
+products-refs (u ∷ us) = rw (sum_by-cons (λ (g : Gate). cond (is_product g) 1 0) (Ref u) (map Ref us), products-refs us) (omega arith)
+
+refreshes-refs : (us : List ℕ) → count_by is_refresh (map Ref us) ≡ length us
+refreshes-refs [] = refl
+refreshes-refs (u ∷ us) = rw (sum_by-cons (λ (g : Gate). cond (is_refresh g) 1 0) (Ref u) (map Ref us), refreshes-refs us) (omega arith)
+
+-- sizes are equal by their parts
+same_size : (a b : Size) → a.inputs ≡ b.inputs → a.outputs ≡ b.outputs → a.products ≡ b.products → a.refreshes ≡ b.refreshes → a.values ≡ b.values → a ≡ b
+same_size a b i o p f v = λ t. record { inputs = i t; outputs = o t; products = p t; refreshes = f t; values = v t }
+
+-- a draft without outputs that is fenced
+size-with_fence : (c : Netlist) (us : List ℕ) → c.outputs ≡ []
+    → size_of (with_fence c us) ≡ record {
+      inputs = c.inputs;
+      outputs = length us;
+      products = product_count c;
+      refreshes = refresh_count c + length us;
+      values = value_count c + length us;
+    }
+unfolding with_fence with_outputs size_of
+size-with_fence c us none =
+    same_size _ _ (inputs-with_gates c (map Ref us))
+    (rw (outputs-with_gates c (map Ref us), none) (length-range_with_len _ (length us)))
+    (product_count-with_gates c (map Ref us) ∙ rw (products-refs us) (omega arith))
+    (refresh_count-with_gates c (map Ref us) ∙ rw (refreshes-refs us) refl)
+    (value_count-with_gates c (map Ref us) ∙ rw (length-map us Ref) refl)
+
+-- FENCED STAGES
+
+-- the stage came out of n inputs by v gates, of which p are products and p refreshes
+pub record CameOut (n : ℕ) (s : Stage) (v p : ℕ) : Type 1 where
+  pub passes : (T : Type 0) → Passes T (only_inputs n) s.draft v p
+  pub fine : (T : Type 0) → IsFine T s
+
+pub Grows-fenced : (s : Stage) → Grows s.draft (fenced s)
+unfolding fenced with_fence
+Grows-fenced s = Grows-trans _ _ _ (Grows-with_gates s.draft _) (Grows-with_outputs _ _)
+
+module _ (n : ℕ) (s : Stage) (v p : ℕ) (out : CameOut n s v p) where
+  abbrev us : List ℕ
+  us = concat s.block
+
+  us-long : length us ≡ 128
+  us-long = length-concat ⊥ s.draft s.block (out.fine ⊥).words ∙ (let four = (out.fine ⊥).long in omega arith)
+
+  pub known-us : All (λ u. u < value_count s.draft) us
+  known-us = All-weaker (IsReady ⊥ s.draft) (λ u. u < value_count s.draft) (λ u ready. ready.below) us (All-concat ⊥ s.draft s.block (out.fine ⊥).words)
+
+  ins : s.draft.inputs ≡ n
+  ins = (out.passes ⊥).adds.inputs
+
+  none : s.draft.outputs ≡ []
+  none = (out.passes ⊥).adds.outputs
+
+  pub size-fenced : size_of (fenced s) ≡ record { inputs = n; outputs = 128; products = p; refreshes = p + 128; values = n + v + 128 }
+  unfolding fenced
+  size-fenced =
+      let adds = (out.passes ⊥).adds in
+      let values = adds.values in let products = adds.products in let refreshes = adds.refreshes in let long = us-long in
+      size-with_fence s.draft us none ∙ same_size _ _ ins us-long (omega arith) (omega arith) (omega arith)
+
+  IsWellFormed-fenced : IsWellFormed (fenced s)
+  unfolding fenced
+  IsWellFormed-fenced = IsWellFormed-fence s.draft us (out.fine ⊥).sound.formed known-us none
+
+  pub IsStrong-fenced : IsStrong (fenced s)
+  unfolding fenced
+  IsStrong-fenced = IsStrong-tidy_fence s.draft us (out.fine ⊥).sound.formed known-us none ((out.fine Unit).sound.tidy tt)
+
+  pub IsCircuit-fenced : n + v + 128 ≤ 1_000_000 → IsCircuit (fenced s)
+  unfolding size_of
+  IsCircuit-fenced few = record {
+    formed = IsWellFormed-fenced;
+    few_values = rw (ap (λ (z : Size). z.values) size-fenced) few;
+    few_outputs = rw (ap (λ (z : Size). z.outputs) size-fenced) (lit≤ tt);
+  }
+
+  pub inputs-fenced : (fenced s).inputs ≡ n
+  inputs-fenced = unfold size_of in ap (λ (z : Size). z.inputs) size-fenced
+
+  -- its plain values solve the stage's gates, and its outputs are the bits of the block's number
+  pub solved-plain : (x : List Bool) → length x ≡ n → Solved (plain_values s.draft x) s.draft
+  solved-plain x long = Solves-all s.draft x (long ∙ sym ins) (out.fine ⊥).sound.formed
+
+  pub plain-fenced : (x : List Bool) → length x ≡ n → plain (fenced s) x ≡ lowest 128 (block_shown (plain_values s.draft x) s)
+  unfolding fenced
+  plain-fenced x long =
+      let bits : List Bool = bits_of s.draft x us in
+      let bits_long : length bits ≡ 128 = unfold bits_of in length-map us (value_at (plain_values s.draft x)) ∙ us-long in
+      let nothing : plain s.draft x ≡ [] = ap (map (value_at (plain_values s.draft x))) none in
+      let read : block_shown (plain_values s.draft x) s ≡ number bits = unfold bits_of in sym (shown-concat ⊥ (plain_values s.draft x) s.draft s.block (out.fine ⊥).words) in
+      plain-with_fence s.draft us (out.fine ⊥).sound.formed known-us x (long ∙ sym ins) (rw none (All-nil (λ u. u < value_count s.draft)))
+      ∙ ap (λ (bs : List Bool). bs ++ bits) nothing
+      ∙ sym (lowest-of bits _ 128 read bits_long)
+
+  -- which is the number of 128 bits
+  number-fenced : (vs : List Bool) → number (lowest 128 (block_shown vs s)) ≡ block_shown vs s
+  number-fenced vs =
+      let read : block_shown vs s ≡ shown vs us = sym (shown-concat ⊥ vs s.draft s.block (out.fine ⊥).words) in
+      let long : length (map (value_at vs) us) ≡ 128 = length-map us (value_at vs) ∙ us-long in
+      let small : block_shown vs s < 2 ^ 128 = rw read (rw long at (number-lt (map (value_at vs) us))) in
+      number-lowest 128 (block_shown vs s) ∙ mod-eq_of_lt small
+
+-- bits up to the end
+rest_of : (x : List Bool) (a : ℕ) → length x ≡ a + 128 → take 128 (drop a x) ≡ drop a x
+rest_of x a long = take_all 128 (drop a x) (rw (length-drop a x) (omega arith))
+
+-- A STEP
+
+abbrev pub step_start : Stage
+step_start = stage (only_inputs 256) (block_from 0)
+
+abbrev pub step_xored : Stage
+step_xored = with_block_xored (block_from 128) step_start
+
+module _ (T : Type 0) where
+  pub step_start-fine : IsFine T step_start
+  step_start-fine = IsFine-inputs T 256 0 (lit≤ tt)
+
+  pub step_block : All (IsWord T step_start.draft) (block_from 128)
+  unfolding stage
+  step_block = words-block_from T 256 128 (lit≤ tt)
+
+  pub Runs-step_xored : Runs T step_start step_xored 128 0
+  Runs-step_xored = Runs-block_xored T (block_from 128) step_start (length-block_from 128) step_block step_start-fine
+
+  Runs-step : Runs T step_start step_stage (128 + 10_416) (0 + 1488)
+  unfolding step_stage
+  Runs-step = Runs-trans T step_start step_xored (with_permutation step_xored) 128 0 10_416 1488 Runs-step_xored (Runs-permutation T step_xored Runs-step_xored.fine)
+
+pub CameOut-step : CameOut 256 step_stage (128 + 10_416) (0 + 1488)
+CameOut-step = record { passes = λ T. (unfold stage in (Runs-step T).passes); fine = λ T. (Runs-step T).fine }
+
+step_permuted : (vs : List Bool) → Solved vs step_stage.draft → block_shown vs step_stage ≡ permutation (block_shown vs step_xored)
+unfolding step_stage
+step_permuted vs solved = shown-permutation ⊥ vs step_xored (Runs-step_xored ⊥).fine solved
+
+step_computes : (x : List Bool) → length x ≡ 256 → block_shown (plain_values step_stage.draft x) step_stage ≡ absorbed (number (take 128 x)) (number (drop 128 x))
+unfolding absorbed
+step_computes x long =
+    let vs : List Bool = plain_values step_stage.draft x in
+    let solved : Solved vs step_stage.draft = solved-plain 256 step_stage _ _ CameOut-step x long in
+    let solved_xored : Solved vs step_xored.draft = Solved-Grows vs step_xored.draft step_stage.draft (unfold step_stage in Lengthens-permutation step_xored) solved in
+    let state : block_shown vs step_start ≡ number (take 128 x) = unfold stage in shown-block_from step_stage.draft x 0 (omega arith) in
+    let block : joined (map (shown vs) (block_from 128)) ≡ number (drop 128 x) = shown-block_from step_stage.draft x 128 (omega arith) ∙ ap number (rest_of x 128 long) in
+    let xored = shown-block_xored ⊥ vs (block_from 128) step_start (length-block_from 128) (step_block ⊥) (step_start-fine ⊥) solved_xored in
+    step_permuted vs solved ∙ ap permutation (xored ∙ ap₂ bit_xor state block)
+
+-- the number of the outputs
+pub number-step_of_bits : (x : List Bool) → length x ≡ 256 → number (step_of_bits x) ≡ absorbed (number (take 128 x)) (number (drop 128 x))
+unfolding step_of_bits
+number-step_of_bits x long = rw (sym (step_computes x long)) (number-fenced 256 step_stage _ _ CameOut-step (plain_values step_stage.draft x))
+
+pub size-named_step : size_of named_step ≡ size_step
+unfolding named_step
+size-named_step = size-fenced 256 step_stage _ _ CameOut-step
+
+pub IsStrong-named_step : IsStrong named_step
+unfolding named_step
+IsStrong-named_step = IsStrong-fenced 256 step_stage _ _ CameOut-step
+
+IsCircuit-named_step : IsCircuit named_step
+unfolding named_step
+IsCircuit-named_step = IsCircuit-fenced 256 step_stage _ _ CameOut-step (lit≤ tt)
+
+pub IsWithinLimits-named_step : IsWithinLimits named_step
+IsWithinLimits-named_step = record { values = IsCircuit-named_step.few_values; outputs = IsCircuit-named_step.few_outputs }
+
+plain-named_step : (x : List Bool) → length x ≡ named_step.inputs → plain named_step x ≡ step_of_bits x
+unfolding named_step step_of_bits
+plain-named_step x long =
+    let here : length x ≡ 256 = long ∙ inputs-fenced 256 step_stage _ _ CameOut-step in
+    plain-fenced 256 step_stage _ _ CameOut-step x here ∙ ap (lowest 128) (step_computes x here)
+
+-- so the circuit of a step meets the contract of a cipher's circuit
+pub IsCipherCircuit-named_step : IsCipherCircuit named_step size_step step_of_bits named_step
+IsCipherCircuit-named_step =
+    IsCipherCircuit-strong named_step size_step step_of_bits named_step refl IsCircuit-named_step size-named_step IsStrong-named_step plain-named_step
+
+-- AN END
+
+-- the stages in an end
+abbrev pub end_key : Stage
+end_key = stage (only_inputs 384) (block_from 128)
+
+abbrev pub end_mask : End → Stage
+end_mask end = with_last_mask end end_key
+
+abbrev pub end_start : End → Stage
+end_start end = stage (end_mask end).draft (block_from 0)
+
+abbrev pub end_xored : End → Stage
+end_xored end = with_block_xored (block_from 256) (end_start end)
+
+abbrev pub end_masked : End → Stage
+end_masked end = with_block_xored (end_mask end).block (end_xored end)
+
+abbrev pub end_permuted : End → Stage
+end_permuted end = with_permutation (end_masked end)
+
+module _ (T : Type 0) (end : End) where
+  pub Runs-mask : Runs T end_key (end_mask end) (mask_values end) 0
+  Runs-mask = Runs-last_mask T end end_key (IsFine-inputs T 384 128 (lit≤ tt))
+
+  -- the inputs behind the mask's gates
+  pub inputs_later : (a : ℕ) → a + 128 ≤ 384 → All (IsWord T (end_mask end).draft) (block_from a)
+  inputs_later a within = All-later T end_key.draft (end_mask end).draft (mask_values end) 0 (block_from a) Runs-mask.passes (unfold stage in words-block_from T 384 a within)
+
+  pub end_start-fine : IsFine T (end_start end)
+  unfolding stage
+  end_start-fine = record { sound = Runs-mask.fine.sound; long = length-block_from 0; words = inputs_later 0 (lit≤ tt) }
+
+  pub end_block : All (IsWord T (end_start end).draft) (block_from 256)
+  unfolding stage
+  end_block = inputs_later 256 (lit≤ tt)
+
+  pub Runs-end_xored : Runs T (end_start end) (end_xored end) 128 0
+  Runs-end_xored = Runs-block_xored T (block_from 256) (end_start end) (length-block_from 256) end_block end_start-fine
+
+  -- the mask is of words at each stage
+  pub mask-long : length (end_mask end).block ≡ 4
+  mask-long = Runs-mask.fine.long
+
+  pub mask_later : (s : Stage) (v p : ℕ) → Runs T (end_start end) s v p → All (IsWord T s.draft) (end_mask end).block
+  unfolding stage
+  mask_later s v p runs = All-later T (end_mask end).draft s.draft v p (end_mask end).block runs.passes Runs-mask.fine.words
+
+  pub Runs-end_masked : Runs T (end_start end) (end_masked end) 256 0
+  Runs-end_masked =
+      Runs-trans T (end_start end) (end_xored end) (end_masked end) 128 0 128 0 Runs-end_xored
+      (Runs-block_xored T (end_mask end).block (end_xored end) mask-long (mask_later (end_xored end) 128 0 Runs-end_xored) Runs-end_xored.fine)
+
+  pub Runs-end_permuted : Runs T (end_start end) (end_permuted end) 10_672 1488
+  Runs-end_permuted =
+      Runs-trans T (end_start end) (end_masked end) (end_permuted end) 256 0 10_416 1488 Runs-end_masked (Runs-permutation T (end_masked end) Runs-end_masked.fine)
+
+  Runs-end : Runs T (end_start end) (end_stage end) 10_800 1488
+  unfolding end_stage
+  Runs-end =
+      Runs-trans T (end_start end) (end_permuted end) _ 10_672 1488 128 0 Runs-end_permuted
+      (Runs-block_xored T (end_mask end).block (end_permuted end) mask-long (mask_later (end_permuted end) 10_672 1488 Runs-end_permuted) Runs-end_permuted.fine)
+
+  end_passes : Passes T (only_inputs 384) (end_stage end).draft (mask_values end + 10_800) (0 + 1488)
+  unfolding stage
+  end_passes = Passes-trans T (only_inputs 384) (end_mask end).draft (end_stage end).draft (mask_values end) 0 10_800 1488 Runs-mask.passes Runs-end.passes
+
+pub CameOut-end : (end : End) → CameOut 384 (end_stage end) (mask_values end + 10_800) (0 + 1488)
+CameOut-end end = record { passes = λ T. end_passes T end; fine = λ T. (Runs-end T end).fine }
+
+-- what is left behind each stage
+pub left-permuted : (end : End) → Lengthens (end_permuted end) (end_stage end)
+unfolding end_stage
+left-permuted end = Lengthens-block_xored (end_mask end).block (end_permuted end)
+
+pub left-masked : (end : End) → Lengthens (end_masked end) (end_stage end)
+left-masked end = Lengthens-trans (end_masked end) (end_permuted end) (end_stage end) (Lengthens-permutation (end_masked end)) (left-permuted end)
+
+pub left-xored : (end : End) → Lengthens (end_xored end) (end_stage end)
+left-xored end = Lengthens-trans (end_xored end) (end_masked end) (end_stage end) (Lengthens-block_xored (end_mask end).block (end_xored end)) (left-masked end)
+
+pub left-mask : (end : End) → Lengthens (end_mask end) (end_stage end)
+left-mask end =
+    Grows-trans (end_mask end).draft (end_xored end).draft (end_stage end).draft (unfold stage in Lengthens-block_xored (block_from 256) (end_start end)) (left-xored end)
+
+end_xored_last : (end : End) (vs : List Bool) → Solved vs (end_stage end).draft
+    → block_shown vs (end_stage end) ≡ bit_xor (block_shown vs (end_permuted end)) (block_shown vs (end_mask end))
+unfolding end_stage
+end_xored_last end vs solved =
+    let mask = mask_later ⊥ end (end_permuted end) 10_672 1488 (Runs-end_permuted ⊥ end) in
+    shown-block_xored ⊥ vs (end_mask end).block (end_permuted end) (mask-long ⊥ end) mask (Runs-end_permuted ⊥ end).fine solved
+
+end_computes : (end : End) (x : List Bool) → length x ≡ 384
+    → block_shown (plain_values (end_stage end).draft x) (end_stage end) ≡ finished end (number (take 128 (drop 128 x))) (number (take 128 x)) (number (drop 256 x))
+unfolding finished
+end_computes end x long =
+    let whole : Netlist = (end_stage end).draft in
+    let vs : List Bool = plain_values whole x in
+    let solved : Solved vs whole = solved-plain 384 (end_stage end) _ _ (CameOut-end end) x long in
+    let key : block_shown vs end_key ≡ number (take 128 (drop 128 x)) = unfold stage in shown-block_from whole x 128 (omega arith) in
+    let state : block_shown vs (end_start end) ≡ number (take 128 x) = unfold stage in shown-block_from whole x 0 (omega arith) in
+    let block : joined (map (shown vs) (block_from 256)) ≡ number (drop 256 x) = shown-block_from whole x 256 (omega arith) ∙ ap number (rest_of x 256 long) in
+    let mask : block_shown vs (end_mask end) ≡ last_mask end (number (take 128 (drop 128 x))) =
+    shown-last_mask ⊥ vs end end_key (IsFine-inputs ⊥ 384 128 (lit≤ tt)) (Solved-Grows vs _ whole (left-mask end) solved) ∙ ap (last_mask end) key in
+    let xored = shown-block_xored ⊥ vs (block_from 256) (end_start end) (length-block_from 256) (end_block ⊥ end) (end_start-fine ⊥ end) (Solved-Grows vs _ whole (left-xored end) solved)
+    ∙ ap₂ bit_xor state block in
+    let masked = shown-block_xored ⊥ vs (end_mask end).block (end_xored end) (mask-long ⊥ end) (mask_later ⊥ end (end_xored end) 128 0 (Runs-end_xored ⊥ end)) (Runs-end_xored ⊥ end).fine
+    (Solved-Grows vs _ whole (left-masked end) solved) ∙ ap₂ bit_xor xored mask in
+    let permuted = shown-permutation ⊥ vs (end_masked end) (Runs-end_masked ⊥ end).fine (Solved-Grows vs _ whole (left-permuted end) solved) ∙ ap permutation masked in
+    end_xored_last end vs solved ∙ ap₂ bit_xor permuted mask
+
+-- the number of the outputs
+pub number-end_of_bits : (end : End) (x : List Bool) → length x ≡ 384
+    → number (end_of_bits end x) ≡ finished end (number (take 128 (drop 128 x))) (number (take 128 x)) (number (drop 256 x))
+unfolding end_of_bits
+number-end_of_bits end x long =
+    rw (sym (end_computes end x long)) (number-fenced 384 (end_stage end) _ _ (CameOut-end end) (plain_values (end_stage end).draft x))
+
+pub size-named_end : (end : End) → size_of (named_end end) ≡ size_end end
+unfolding named_end
+size-named_end Whole = size-fenced 384 (end_stage Whole) _ _ (CameOut-end Whole)
+size-named_end Short = size-fenced 384 (end_stage Short) _ _ (CameOut-end Short)
+
+pub IsStrong-named_end : (end : End) → IsStrong (named_end end)
+unfolding named_end
+IsStrong-named_end end = IsStrong-fenced 384 (end_stage end) _ _ (CameOut-end end)
+
+IsCircuit-named_end : (end : End) → IsCircuit (named_end end)
+unfolding named_end
+IsCircuit-named_end Whole = IsCircuit-fenced 384 (end_stage Whole) _ _ (CameOut-end Whole) (lit≤ tt)
+IsCircuit-named_end Short = IsCircuit-fenced 384 (end_stage Short) _ _ (CameOut-end Short) (lit≤ tt)
+
+pub IsWithinLimits-named_end : (end : End) → IsWithinLimits (named_end end)
+IsWithinLimits-named_end end = let is = IsCircuit-named_end end in record { values = is.few_values; outputs = is.few_outputs }
+
+plain-named_end : (end : End) (x : List Bool) → length x ≡ (named_end end).inputs → plain (named_end end) x ≡ end_of_bits end x
+unfolding named_end end_of_bits
+plain-named_end end x long =
+    let here : length x ≡ 384 = long ∙ inputs-fenced 384 (end_stage end) _ _ (CameOut-end end) in
+    plain-fenced 384 (end_stage end) _ _ (CameOut-end end) x here ∙ ap (lowest 128) (end_computes end x here)
+
+-- so do the circuits of the ends
+pub IsCipherCircuit-named_end : (end : End) → IsCipherCircuit (named_end end) (size_end end) (end_of_bits end) (named_end end)
+IsCipherCircuit-named_end end =
+    IsCipherCircuit-strong (named_end end) (size_end end) (end_of_bits end) (named_end end) refl (IsCircuit-named_end end) (size-named_end end)
+    (IsStrong-named_end end) (plain-named_end end)

@@ -1,0 +1,3 @@
+pub mod Chaskey
+pub mod NamedChaskey
+pub mod Rounds
