@@ -1,8 +1,7 @@
--- What is made of a seed, and the line of a run.
-use Rattle.std.proofs.Common.{◌≡◌, [], ◌∷◌, ◌++◌, refl}
-use Rattle.std.specs.Prelude.{codes}
+-- What is made of a seed, and a sum of blocks.
+use Rattle.std.proofs.Common.{◌≡◌, [], ◌∷◌, refl}
 use Rattle.mask_self.specs.Generator.{bytes_from, next, top_byte}
-use Rattle.mask_self.specs.Reports.{line, sum_of_blocks}
+use Rattle.mask_self.specs.Reports.{sum_of_blocks}
 use Rattle.mask_self.specs.Selves.{own_lines, own_iv, own_message}
 
 -- key lines, IV and message of seed 1 at order 1
@@ -21,6 +20,3 @@ message_of_1 = refl
 -- the second block is short
 sum_of_two_blocks : sum_of_blocks (1 ∷ 2 ∷ 3 ∷ 4 ∷ 5 ∷ 6 ∷ 7 ∷ 8 ∷ 9 ∷ 10 ∷ 11 ∷ 12 ∷ 13 ∷ 14 ∷ 15 ∷ 16 ∷ 7 ∷ []) ≡ 6 ∷ 2 ∷ 3 ∷ 4 ∷ 5 ∷ 6 ∷ 7 ∷ 8 ∷ 9 ∷ 10 ∷ 11 ∷ 12 ∷ 13 ∷ 14 ∷ 15 ∷ 16 ∷ []
 sum_of_two_blocks = refl
-
-line_of_two : line 17 2 592256 (0x25 ∷ 0x10 ∷ 0x6a ∷ []) ≡ codes "self bytes 17 calls 2 bits 592256 xor 25106a" ++ 10 ∷ []
-line_of_two = refl
