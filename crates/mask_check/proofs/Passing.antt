@@ -303,3 +303,37 @@ HasCome-old c left right nl nr nl' nr' v n bit g m next is visit before lt =
     let old = subst (λ (x : ℕ). HasCome c left right nl nr x m) (sym next) before in
     let at = subst (λ (x : Option Gate). IsLowestAt x (get_or nl v 0) (get_or nr v 0) bit) visit.gate visit.lowest in
     further c left right nl nr nl' nr' v bit g m _ is visit old (lowest_old c left right nl nr v bit m is old.on_left old.on_right at old.lowest lt)
+
+-- At a value without marks there is nothing to do: what the pass has at the values above v, it has at v too.
+IsPassed-unmarked : (c : Netlist) (start now : List ℕ) (v : ℕ) → get_or now v 0 ≡ 0 → IsPassed c start now (suc v) → IsPassed c start now v
+IsPassed-unmarked c start now v none old = record {
+  size = old.size;
+  clear = λ w le. clear_at w le (cases_eq w v);
+  goes = λ j s lt h. old.goes j s (omega arith) h;
+  comes = λ j s lt h. old.comes j s (omega arith) h;
+}
+  where
+    clear_at : (w : ℕ) → v ≤ w → (w ≡ v) ⊎ (w ≡ v → ⊥) → get_or now w 0 ≡ 0
+    clear_at w le (inl e) = rw e none
+    clear_at w le (inr ne) = old.clear w (omega arith)
+
+pub HasCome-unmarked : (c : Netlist) (left right nl nr : List ℕ) (v n : ℕ) (m : Meeting) → suc v ≡ n → IsCircuit c → get_or nl v 0 ≡ 0 → get_or nr v 0 ≡ 0 →
+    HasCome c left right nl nr n m → HasCome c left right nl nr v m
+HasCome-unmarked c left right nl nr v n m next is no_left no_right before =
+    let old = subst (λ (x : ℕ). HasCome c left right nl nr x m) (sym next) before in
+    record {
+      within = omega (arith, old.within);
+      on_left = IsPassed-unmarked c left nl v no_left old.on_left;
+      on_right = IsPassed-unmarked c right nr v no_right old.on_right;
+      lowest = record {
+        on_left = old.lowest.on_left;
+        on_right = old.lowest.on_right;
+        lowest = λ j s from l r. lowest_at old j s from l r (cases_eq s v);
+      };
+    }
+  where
+    lowest_at : HasCome c left right nl nr (suc v) m → (j s : ℕ) → v ≤ s → Meets c left j s → Meets c right j s → (s ≡ v) ⊎ (s ≡ v → ⊥) →
+        (m.bit < j) ⊎ ((m.bit ≡ j) × (m.source ≤ s))
+    lowest_at old j s from l r (inl e) =
+        absurd (HasBit-none _ j no_left (met c left nl v j is old.on_left (subst (λ (x : ℕ). Meets c left j x) e l)))
+    lowest_at old j s from l r (inr ne) = old.lowest.lowest j s (omega arith) l r

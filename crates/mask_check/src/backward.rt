@@ -43,6 +43,10 @@ pub(crate) fn pass<L: Ledger>(
     while value > 0 {
         value -= 1;
         steps.tick();
+        // Most values have no mark.
+        if left[value as usize] == 0 && right[value as usize] == 0 {
+            continue;
+        }
         let gate = circuit.gate_at(value);
         let on_left = take_marks(left, value, gate);
         let on_right = take_marks(right, value, gate);

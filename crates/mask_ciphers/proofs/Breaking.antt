@@ -7,8 +7,10 @@ use Rattle.mask_trace.proofs.Showing.{plans_are_runs, plans_are_private}
 use Rattle.mask_modes.specs.Steps.{blocks}
 use Rattle.mask_modes.proofs.Blocks.{blocks_are_long}
 use Rattle.mask_modes.proofs.Plans.{steps_are_strong}
-use Rattle.mask_ciphers.specs.Tasks.{cipher_of, mode_of, plan}
-use Rattle.mask_ciphers.specs.Laws.{RunsArePrivate}
+use Rattle.mask_ciphers.specs.Methods.{Method, InCounterMode, key_width}
+use Rattle.mask_ciphers.specs.Methods as methods
+use Rattle.mask_ciphers.specs.Tasks.{method_of, plan}
+use Rattle.mask_ciphers.specs.Laws.{IsSound, PlansAreStrong, RunsArePrivate}
 use Rattle.mask_ciphers.proofs.Enciphering.{tasks_encipher}
 use Rattle.mask_ciphers.proofs.KeyBits.{key_in_bytes}
 
@@ -19,15 +21,17 @@ IsStrongPlan-take k s (suc count) [] strong = tt
 IsStrongPlan-take k s (suc count) (step ∷ steps) strong =
     (strong.0, IsStrongPlan-take k (state_after step.keeps step.circuit s) count steps strong.1)
 
-plan_is_strong : (task : Task) (message : List ℕ) → IsStrongPlan (8 * key_bytes task) 0 (plan task message)
-plan_is_strong task message =
-    let m = mode_of task in
-    subst (λ (k : ℕ). IsStrongPlan k 0 (plan task message)) (key_in_bytes task)
-    (steps_are_strong.strong m (cipher_of task) 0 (blocks m.block message) (tasks_encipher task) (blocks_are_long m.block message))
+plan_by_method : (method : Method) (message : List ℕ) → IsSound method → IsStrongPlan (key_width method) 0 (methods.plan method message)
+plan_by_method (InCounterMode m cipher) message is =
+    steps_are_strong.strong m cipher 0 (blocks m.block message) is (blocks_are_long m.block message)
+
+pub plans_are_strong : PlansAreStrong
+plans_are_strong task message =
+    subst (λ (k : ℕ). IsStrongPlan k 0 (plan task message)) (key_in_bytes task) (plan_by_method (method_of task) message (tasks_encipher task))
 
 pub runs_are_private : RunsArePrivate
 runs_are_private N task message count two =
-    let strong = IsStrongPlan-take (8 * key_bytes task) 0 count (plan task message) (plan_is_strong task message) in
+    let strong = IsStrongPlan-take (8 * key_bytes task) 0 count (plan task message) (plans_are_strong task message) in
     record {
       run = plans_are_runs N (8 * key_bytes task) (take count (plan task message)) two strong;
       private = plans_are_private N (8 * key_bytes task) (take count (plan task message)) two strong;

@@ -23,7 +23,7 @@ use Rattle.mask_trace.specs.Steps.{bits_of}
 use Rattle.mask_modes.specs.CounterMode.{block_count}
 use Rattle.mask_modes.specs.Steps.{Mode, Cipher, Enciphers, steps_of}
 use Rattle.mask_modes.proofs.TapeBits.{run_bits}
-use Rattle.mask_ciphers.specs.Tasks.{cipher_of, mode_of}
+use Rattle.mask_ciphers.specs.Tasks.{lea_cipher, lea_mode, present_cipher, present_mode}
 use Rattle.mask_ciphers.specs.Totals.{gate_bits, present_gates, present_key_gates, lea_gates, lea_key_gates, counter_bits, total}
 use Rattle.mask_ciphers.specs.Laws.{RunsDrawTotals}
 use Rattle.mask_ciphers.proofs.Enciphering.{tasks_encipher}
@@ -80,8 +80,8 @@ draws-lea_key lea_size.K256 = draws-refreshing 256
 pub runs_draw_totals : RunsDrawTotals
 unfolding total
 runs_draw_totals (Present size iv) d message =
-    let task = Present size iv in
-    run_draws (mode_of task) (cipher_of task) (present_gates size) (present_key_gates size) d message (tasks_encipher task) (draws-present size d) (draws-present_key size d)
+    run_draws (present_mode size iv) (present_cipher size) (present_gates size) (present_key_gates size) d message (tasks_encipher (Present size iv))
+    (draws-present size d) (draws-present_key size d)
 runs_draw_totals (Lea size iv) d message =
-    let task = Lea size iv in
-    run_draws (mode_of task) (cipher_of task) (lea_gates size) (lea_key_gates size) d message (tasks_encipher task) (draws-lea size d) (draws-lea_key size d)
+    run_draws (lea_mode size iv) (lea_cipher size) (lea_gates size) (lea_key_gates size) d message (tasks_encipher (Lea size iv))
+    (draws-lea size d) (draws-lea_key size d)

@@ -14,12 +14,13 @@ use Rattle.mask_tasks.specs.declared.tasks.Task.{Task}
 use Rattle.mask_tasks.specs.Tasks.{key_bytes}
 use Rattle.mask_keys.specs.Lines.{line_length, joined}
 use Rattle.mask_keys.proofs.Joining.{bit-fold}
+use Rattle.mask_trace.specs.Steps.{Registers}
 use Rattle.mask_trace.specs.Traces.{BitShares}
-use Rattle.mask_modes.specs.Outputs.{HasKey, key_of}
+use Rattle.mask_trace.specs.Values.{HasShares, values_of}
 use Rattle.mask_laws.proofs.CircuitNames.{All-each}
-use Rattle.mask_ciphers.specs.Tasks.{mode_of, key_bits, key_shares, with_lines}
+use Rattle.mask_ciphers.specs.Tasks.{held_at_first, key_bits, key_shares, with_lines}
 use Rattle.mask_ciphers.specs.Laws.{LinesShareKeys}
-use Rattle.mask_ciphers.proofs.KeyBits.{IsBitOfByte, ReadsBits, key_reads_bits, key_in_bytes}
+use Rattle.mask_ciphers.proofs.KeyBits.{IsBitOfByte, ReadsBits, key_reads_bits}
 
 -- ONE BIT
 
@@ -72,20 +73,25 @@ shares_of_bits reading reads lines n equal long =
     ∙ ap (unmasked bits) (get_or-each (row reading lines) (8 * n) j [] here)
     ∙ shares_of_bit reading reads lines j equal (omega arith))
 
-lines_have_key : (task : Task) (lines : List (List ℕ)) → HasKey (length lines) (mode_of task) (with_lines task lines)
+lines_have_key : (task : Task) (lines : List (List ℕ)) → HasShares (length lines) (8 * key_bytes task) 0 (with_lines task lines)
 unfolding key_shares
 lines_have_key task lines = record {
-  key = length-each (row (key_bits task) lines) (8 * key_bytes task) ∙ sym (key_in_bytes task);
+  key = length-each (row (key_bits task) lines) (8 * key_bytes task);
   state = refl;
   key_shares = All-each (λ shares. length shares ≡ length lines) (row (key_bits task) lines) (8 * key_bytes task)
       (λ j lt. length-map lines (λ (line : List ℕ). get_or (key_bits task line) j false));
   state_shares = All-nil (λ (shares : BitShares). length shares ≡ length lines);
 }
 
+-- the registers with this key
+abbrev with_key_bits : List Bool → Registers Bool
+with_key_bits key = record { key = key; state = [] }
+
 lines_join : (task : Task) (lines : List (List ℕ)) → All (λ line. length line ≡ line_length lines) lines → line_length lines ≡ key_bytes task →
-    key_of (with_lines task lines) ≡ key_bits task (joined lines)
+    values_of (with_lines task lines) ≡ held_at_first task (joined lines)
 unfolding key_shares
-lines_join task lines equal long = shares_of_bits (key_bits task) (key_reads_bits task) lines (key_bytes task) equal long
+lines_join task lines equal long =
+    ap with_key_bits (shares_of_bits (key_bits task) (key_reads_bits task) lines (key_bytes task) equal long)
 
 pub lines_share_keys : LinesShareKeys
 lines_share_keys = record {

@@ -5,7 +5,8 @@ use Rattle.mask_tasks.specs.declared.tasks.Task.{Task}
 use Rattle.mask_tasks.specs.declared.tasks.Task.TheVariants.{Present, Lea}
 use Rattle.mask_tasks.specs.Tasks.{key_bytes}
 use Rattle.mask_modes.proofs.Readings.{bytes_are_read}
-use Rattle.mask_ciphers.specs.Tasks.{mode_of, key_bits}
+use Rattle.mask_ciphers.specs.Methods.{key_width}
+use Rattle.mask_ciphers.specs.Tasks.{method_of, key_bits}
 
 -- Place j in this reading of n bytes has a bit of one byte.
 pub record IsBitOfByte (reading : List ℕ → List Bool) (n j : ℕ) : Type 0 where
@@ -50,7 +51,11 @@ pub key_reads_bits : (task : Task) → ReadsBits (key_bits task)
 key_reads_bits (Present size iv) = high_reads_bits
 key_reads_bits (Lea size iv) = low_reads_bits
 
--- the mode takes eight bits for each byte of a key
-pub key_in_bytes : (task : Task) → (mode_of task).key ≡ 8 * key_bytes task
+-- a method takes eight bits for each byte of a key
+pub key_in_bytes : (task : Task) → key_width (method_of task) ≡ 8 * key_bytes task
 key_in_bytes (Present size iv) = refl
 key_in_bytes (Lea size iv) = refl
+
+-- a key has the bits that the method takes
+pub length-key_bits : (task : Task) (key : List ℕ) → length key ≡ key_bytes task → length (key_bits task key) ≡ key_width (method_of task)
+length-key_bits task key long = (key_reads_bits task).count key ∙ ap (λ (n : ℕ). 8 * n) long ∙ sym (key_in_bytes task)

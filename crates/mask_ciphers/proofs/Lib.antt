@@ -1,8 +1,11 @@
+pub mod Batches
 pub mod Breaking
 pub mod Drawing
 pub mod Enciphering
+mod GateExamples
+pub mod Gates
 pub mod Joining
-mod KeyBits
+pub mod KeyBits
 mod LeaExamples
 mod TaskExamples
 pub mod Writing

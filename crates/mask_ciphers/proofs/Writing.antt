@@ -1,43 +1,180 @@
--- What a task writes is a ciphertext in counter mode.
-use Rattle.std.proofs.Common.{◌≡◌, ℕ, ◌*◌, List, length, take, refl, sym, ap, ◌∙◌}
+-- What is written of a message, piece by piece.
+use Rattle.std.proofs.Common.{◌≡◌, ℕ, ◌+◌, ◌-◌, ◌*◌, ◌/◌, ◌%◌, ◌^◌, ◌<◌, Bool, true, false, List, [], ◌++◌, length, take, get_or, refl, sym, ap, ap₂, ◌∙◌, subst, arith}
+use Rattle.std.proofs.lemmas.List.{get_or_default}
+use Rattle.std.proofs.lemmas.Nat.{mod_below}
+use Rattle.mask_bits.specs.Reading.{AreBytes}
 use Rattle.mask_tasks.specs.declared.tasks.Task.{Task}
 use Rattle.mask_tasks.specs.declared.tasks.Task.TheVariants.{Present, Lea}
 use Rattle.mask_tasks.specs.Tasks.{key_bytes}
-use Rattle.mask_modes.specs.CounterMode.{MakesBlocks, ciphertext_from}
-use Rattle.mask_modes.proofs.Keystreams.{ciphertext_fits}
-use Rattle.mask_ciphers.specs.Tasks.{cipher_of, mode_of, key_bits, output}
-use Rattle.mask_ciphers.specs.Laws.{OutputsAreCiphertexts}
+use Rattle.mask_trace.specs.Steps.{Registers}
+use Rattle.mask_trace.specs.Values.{value_after}
+use Rattle.mask_modes.specs.CounterMode.{MakesBlocks, block_count, ciphertext_from, counter, counter_mode}
+use Rattle.mask_modes.specs.Steps.{Cipher, Mode, Enciphers, block_at, blocks, steps_from, steps_of}
+use Rattle.mask_modes.proofs.Blocks.{block_at_is_block, xor_is_block}
+use Rattle.mask_modes.proofs.CiphertextBlocks.{ciphertext_in_blocks}
+use Rattle.mask_modes.proofs.Encrypting.{steps_encrypt}
+use Rattle.mask_modes.proofs.Keystreams.{ciphertext_fits, counter_is_block}
+use Rattle.mask_modes.proofs.Splitting.{messages_split}
+use Rattle.mask_ciphers.specs.Methods.{Method, InCounterMode, AreBatches, IsCipher, fed_steps, key_width, next_output, next_steps}
+use Rattle.mask_ciphers.specs.Methods as methods
+use Rattle.mask_ciphers.specs.Tasks.{fed_output, held_at_first, method_of, output, plan}
+use Rattle.mask_ciphers.specs.Laws.{CiphersGoOn, MessagesGoOn, OutputsAreCiphertexts, PiecesAreWritten, held_behind}
+use Rattle.mask_ciphers.proofs.Batches.{batches_are_blocks}
 use Rattle.mask_ciphers.proofs.Enciphering.{tasks_encipher}
-use Rattle.mask_ciphers.proofs.KeyBits.{key_reads_bits, key_in_bytes}
+use Rattle.mask_ciphers.proofs.KeyBits.{length-key_bits}
 
--- the cipher of the task under the bits of this key
-abbrev keyed : Task → List ℕ → List ℕ → List ℕ
-keyed task key = cipher_of task (key_bits task key)
+-- IN COUNTER MODE
 
--- the ciphertext in the task's mode, from block 0 on
-abbrev ciphertext : Task → List ℕ → List ℕ → List ℕ
-ciphertext task key message = ciphertext_from (mode_of task).block (mode_of task).iv (keyed task key) 0 message
+module _ (m : Mode) (cipher : Cipher) (is : Enciphers cipher m) where
+  steps_more : (front piece : List ℕ) → length front % (64 * m.block) ≡ 0 →
+      steps_of m (front ++ piece) ≡ steps_of m front ++ steps_from m (block_count m.block (length front)) (blocks m.block piece)
+  steps_more front piece whole =
+      let n = block_count m.block (length front) in
+      let count = messages_split.count m.block n front is.circuits.some (batches_are_blocks m.block (length front) is.circuits.some whole) in
+      ap (steps_from m 0) (messages_split.cut m.block n front piece is.circuits.some (batches_are_blocks m.block (length front) is.circuits.some whole))
+      ∙ messages_split.steps m 0 (blocks m.block front) (blocks m.block piece)
+      ∙ ap (λ (i : ℕ). steps_of m front ++ steps_from m i (blocks m.block piece)) (omega (arith, count))
 
-output_is : (task : Task) (key message : List ℕ) → output task key message ≡ ciphertext task key message
+  module _ (held : Registers Bool) (long : length held.key ≡ m.key) where
+    makes : MakesBlocks m.block m.iv (cipher held.key)
+    makes = ciphertext_fits.blocks m cipher held.key is long
+
+    -- the key is what it was
+    held_on : (message : List ℕ) → value_after held (steps_of m message) ≡ held
+    held_on message = steps_encrypt.values_stay m cipher held 0 (blocks m.block message) is long
+
+    next_is : (front piece : List ℕ) → ciphertext_from m.block m.iv (cipher (value_after held (steps_of m front)).key) (block_count m.block (length front)) piece
+        ≡ ciphertext_from m.block m.iv (cipher held.key) (block_count m.block (length front)) piece
+    next_is front piece = ap (λ (now : Registers Bool). ciphertext_from m.block m.iv (cipher now.key) (block_count m.block (length front)) piece) (held_on front)
+
+    output_more : (front piece : List ℕ) → length front % (64 * m.block) ≡ 0 → counter_mode m.block m.iv (cipher held.key) (front ++ piece)
+        ≡ counter_mode m.block m.iv (cipher held.key) front
+        ++ ciphertext_from m.block m.iv (cipher (value_after held (steps_of m front)).key) (block_count m.block (length front)) piece
+    output_more front piece whole =
+        messages_split.ciphertext m.block m.iv (cipher held.key) 0 (block_count m.block (length front)) front piece is.circuits.some makes (batches_are_blocks m.block (length front) is.circuits.some whole)
+        ∙ ap₂ (λ (i : ℕ) (key : List Bool). counter_mode m.block m.iv (cipher held.key) front ++ ciphertext_from m.block m.iv (cipher key) i piece)
+        (omega arith) (sym (ap (λ (now : Registers Bool). now.key) (held_on front)))
+
+    next_long : (front piece : List ℕ) →
+        length (ciphertext_from m.block m.iv (cipher (value_after held (steps_of m front)).key) (block_count m.block (length front)) piece) ≡ length piece
+    next_long front piece =
+        ap length (next_is front piece) ∙ ciphertext_fits.as_long m.block m.iv (cipher held.key) (block_count m.block (length front)) piece is.circuits.some makes
+
+    -- a ciphertext of bytes is bytes
+    ciphertext_is_bytes : (i : ℕ) (part : List ℕ) → AreBytes part → AreBytes (ciphertext_from m.block m.iv (cipher held.key) i part)
+    ciphertext_is_bytes i part are k d lt =
+        let b = m.block in
+        let j = k / b in
+        let within : k < length part = omega (arith, ciphertext_fits.as_long b m.iv (cipher held.key) i part is.circuits.some makes) in
+        let block = xor_is_block m (block_at b part j) (cipher held.key (counter b m.iv (i + j))) (block_at_is_block m part j are)
+        (is.is_block held.key (counter b m.iv (i + j)) long (counter_is_block m (i + j))) in
+        subst (λ (x : ℕ). x < 2 ^ 8)
+        (sym (get_or_default (ciphertext_from b m.iv (cipher held.key) i part) k d 0 lt
+        ∙ ciphertext_in_blocks.byte b m.iv (cipher held.key) i part k is.circuits.some makes within))
+        (block.1 (k % b) 0 (rw block.0 (mod_below k b is.circuits.some)))
+
+    next_bytes : (front piece : List ℕ) → AreBytes piece →
+        AreBytes (ciphertext_from m.block m.iv (cipher (value_after held (steps_of m front)).key) (block_count m.block (length front)) piece)
+    next_bytes front piece are = rw (next_is front piece) (ciphertext_is_bytes (block_count m.block (length front)) piece are)
+
+    as_long : (message : List ℕ) → length (counter_mode m.block m.iv (cipher held.key) message) ≡ length message
+    as_long message = ciphertext_fits.as_long m.block m.iv (cipher held.key) 0 message is.circuits.some makes
+
+    front_of : (message : List ℕ) (n : ℕ) → counter_mode m.block m.iv (cipher held.key) (take n message) ≡ take n (counter_mode m.block m.iv (cipher held.key) message)
+    front_of message n = ciphertext_fits.front m.block m.iv (cipher held.key) 0 n message is.circuits.some makes
+
+-- EVERY TASK
+
+-- the bits of a key under which a run begins
+key_long : (task : Task) (key : List ℕ) → length key ≡ key_bytes task → length (held_at_first task key).key ≡ key_width (method_of task)
+key_long task key long = length-key_bits task key long
+
+no_steps : (task : Task) → fed_steps (method_of task) [] ≡ []
+unfolding steps_from
+no_steps (Present size iv) = refl
+no_steps (Lea size iv) = refl
+
+no_output : (task : Task) (key : List ℕ) → fed_output task key [] ≡ []
+unfolding output fed_output ciphertext_from
+no_output (Present size iv) key = refl
+no_output (Lea size iv) key = refl
+
+fed_steps_go_on : (task : Task) (front piece : List ℕ) → AreBatches (method_of task) (length front) →
+    fed_steps (method_of task) (front ++ piece) ≡ fed_steps (method_of task) front ++ next_steps (method_of task) (length front) piece false
+fed_steps_go_on (Present size iv) front piece whole = steps_more _ _ (tasks_encipher (Present size iv)) front piece whole
+fed_steps_go_on (Lea size iv) front piece whole = steps_more _ _ (tasks_encipher (Lea size iv)) front piece whole
+
+plan_goes_on : (task : Task) (front piece : List ℕ) → AreBatches (method_of task) (length front) →
+    plan task (front ++ piece) ≡ fed_steps (method_of task) front ++ next_steps (method_of task) (length front) piece true
+plan_goes_on (Present size iv) front piece whole = steps_more _ _ (tasks_encipher (Present size iv)) front piece whole
+plan_goes_on (Lea size iv) front piece whole = steps_more _ _ (tasks_encipher (Lea size iv)) front piece whole
+
+output_goes_on : (task : Task) (key front piece : List ℕ) → length key ≡ key_bytes task → AreBatches (method_of task) (length front) →
+    output task key (front ++ piece) ≡ fed_output task key front ++ next_output (method_of task) (held_behind task key front) (length front) piece true
+unfolding output fed_output
+output_goes_on (Present size iv) key front piece long whole =
+    let task = Present size iv in output_more _ _ (tasks_encipher task) (held_at_first task key) (key_long task key long) front piece whole
+output_goes_on (Lea size iv) key front piece long whole =
+    let task = Lea size iv in output_more _ _ (tasks_encipher task) (held_at_first task key) (key_long task key long) front piece whole
+
+fed_output_goes_on : (task : Task) (key front piece : List ℕ) → length key ≡ key_bytes task → AreBatches (method_of task) (length front) →
+    fed_output task key (front ++ piece) ≡ fed_output task key front ++ next_output (method_of task) (held_behind task key front) (length front) piece false
+unfolding fed_output
+fed_output_goes_on (Present size iv) key front piece long whole = output_goes_on (Present size iv) key front piece long whole
+fed_output_goes_on (Lea size iv) key front piece long whole = output_goes_on (Lea size iv) key front piece long whole
+
+pub messages_go_on : MessagesGoOn
+messages_go_on = record {
+  no_steps = no_steps;
+  no_output = no_output;
+  steps_fed = fed_steps_go_on;
+  steps_last = plan_goes_on;
+  output_fed = fed_output_goes_on;
+  output_last = output_goes_on;
+}
+
+same_steps : (method : Method) → IsCipher method → (front : List ℕ) → fed_steps method front ≡ methods.plan method front
+same_steps (InCounterMode m cipher) is front = refl
+
+same_output : (task : Task) → IsCipher (method_of task) → (key front : List ℕ) → fed_output task key front ≡ output task key front
+unfolding fed_output
+same_output (Present size iv) is key front = refl
+same_output (Lea size iv) is key front = refl
+
+pub ciphers_go_on : CiphersGoOn
+ciphers_go_on = record { steps = λ task is front. same_steps (method_of task) is front; output = same_output }
+
+piece_long : (task : Task) (key front piece : List ℕ) (last : Bool) → length key ≡ key_bytes task →
+    length (next_output (method_of task) (held_behind task key front) (length front) piece last) ≡ length piece
+piece_long (Present size iv) key front piece last long =
+    let task = Present size iv in next_long _ _ (tasks_encipher task) (held_at_first task key) (key_long task key long) front piece
+piece_long (Lea size iv) key front piece last long =
+    let task = Lea size iv in next_long _ _ (tasks_encipher task) (held_at_first task key) (key_long task key long) front piece
+
+piece_bytes : (task : Task) (key front piece : List ℕ) (last : Bool) → length key ≡ key_bytes task → AreBytes piece →
+    AreBytes (next_output (method_of task) (held_behind task key front) (length front) piece last)
+piece_bytes (Present size iv) key front piece last long =
+    let task = Present size iv in next_bytes _ _ (tasks_encipher task) (held_at_first task key) (key_long task key long) front piece
+piece_bytes (Lea size iv) key front piece last long =
+    let task = Lea size iv in next_bytes _ _ (tasks_encipher task) (held_at_first task key) (key_long task key long) front piece
+
+pub pieces_are_written : PiecesAreWritten
+pieces_are_written = record { as_long = piece_long; bytes = piece_bytes }
+
+output_long : (task : Task) (key message : List ℕ) → length key ≡ key_bytes task → length (output task key message) ≡ length message
 unfolding output
-output_is (Present size iv) key message = refl
-output_is (Lea size iv) key message = refl
+output_long (Present size iv) key message long =
+    let task = Present size iv in as_long _ _ (tasks_encipher task) (held_at_first task key) (key_long task key long) message
+output_long (Lea size iv) key message long =
+    let task = Lea size iv in as_long _ _ (tasks_encipher task) (held_at_first task key) (key_long task key long) message
 
--- a key has the bits that the mode takes
-length-key_bits : (task : Task) (key : List ℕ) → length key ≡ key_bytes task → length (key_bits task key) ≡ (mode_of task).key
-length-key_bits task key long = (key_reads_bits task).count key ∙ ap (λ (n : ℕ). 8 * n) long ∙ sym (key_in_bytes task)
-
-makes_blocks : (task : Task) (key : List ℕ) → length key ≡ key_bytes task → MakesBlocks (mode_of task).block (mode_of task).iv (keyed task key)
-makes_blocks task key long = ciphertext_fits.blocks (mode_of task) (cipher_of task) (key_bits task key) (tasks_encipher task) (length-key_bits task key long)
+output_front : (task : Task) (key message : List ℕ) (n : ℕ) → length key ≡ key_bytes task →
+    output task key (take n message) ≡ take n (output task key message)
+unfolding output
+output_front (Present size iv) key message n long =
+    let task = Present size iv in front_of _ _ (tasks_encipher task) (held_at_first task key) (key_long task key long) message n
+output_front (Lea size iv) key message n long =
+    let task = Lea size iv in front_of _ _ (tasks_encipher task) (held_at_first task key) (key_long task key long) message n
 
 pub outputs_are_ciphertexts : OutputsAreCiphertexts
-outputs_are_ciphertexts = record {
-  from_first = output_is;
-  as_long = λ task key message long.
-      ap length (output_is task key message)
-      ∙ ciphertext_fits.as_long _ _ (keyed task key) 0 message (tasks_encipher task).circuits.some (makes_blocks task key long);
-  front = λ task key message n long.
-      output_is task key (take n message)
-      ∙ ciphertext_fits.front _ _ (keyed task key) 0 n message (tasks_encipher task).circuits.some (makes_blocks task key long)
-      ∙ ap (take n) (sym (output_is task key message));
-}
+outputs_are_ciphertexts = record { as_long = output_long; front = output_front }

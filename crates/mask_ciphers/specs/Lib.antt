@@ -1,3 +1,4 @@
+pub mod Methods
 pub mod Tasks
 pub mod Totals
 pub mod Laws

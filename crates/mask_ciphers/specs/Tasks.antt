@@ -16,7 +16,8 @@ use Rattle.mask_refresh.specs.Refreshing.{refreshing}
 use Rattle.mask_trace.specs.Steps.{Registers, Step}
 use Rattle.mask_trace.specs.Traces.{BitShares}
 use Rattle.mask_modes.specs.CounterMode.{counter_mode}
-use Rattle.mask_modes.specs.Steps.{Mode, Cipher, on_numbers, on_little_numbers, steps_of}
+use Rattle.mask_modes.specs.Steps.{Mode, Cipher, on_numbers, on_little_numbers}
+use Rattle.mask_ciphers.specs.Methods as methods
 
 -- PRESENT on blocks of eight bytes: big-endian numbers (ISO/IEC 29192-2)
 abbrev pub present_cipher : KeySize → Cipher
@@ -25,11 +26,6 @@ present_cipher size = on_numbers 8 (λ key. present size (number key))
 -- LEA on blocks of sixteen bytes: little-endian numbers (ISO/IEC 29192-2)
 abbrev pub lea_cipher : LeaSize → Cipher
 lea_cipher size = on_little_numbers 16 (λ key. lea size (number key))
-
--- the cipher of a task, under the bits of a key
-abbrev pub cipher_of : Task → Cipher
-cipher_of (Present size iv) = present_cipher size
-cipher_of (Lea size iv) = lea_cipher size
 
 -- the bits of a key, as the cipher reads its bytes
 abbrev pub key_bits : Task → List ℕ → List Bool
@@ -64,13 +60,19 @@ lea_mode size iv = record {
   iv = iv;
 }
 
-abbrev pub mode_of : Task → Mode
-mode_of (Present size iv) = present_mode size iv
-mode_of (Lea size iv) = lea_mode size iv
+-- by which method a message is taken
+abbrev pub method_of : Task → methods.Method
+method_of (Present size iv) = methods.InCounterMode (present_mode size iv) (present_cipher size)
+method_of (Lea size iv) = methods.InCounterMode (lea_mode size iv) (lea_cipher size)
 
 -- the steps of a run on a message
 abbrev pub plan : Task → List ℕ → List Step
-plan task message = steps_of (mode_of task) message
+plan task message = methods.plan (method_of task) message
+
+-- What is written of whole batches, behind which more of the message comes: their ciphertext.
+unfoldable pub fed_output : Task → List ℕ → List ℕ → List ℕ
+fed_output (Present size iv) key front = output (Present size iv) key front
+fed_output (Lea size iv) key front = output (Lea size iv) key front
 
 -- the shares of the bits of a key that is split into lines: share i of a bit is its bit in line i
 unfoldable pub key_shares : Task → List (List ℕ) → List BitShares
@@ -79,3 +81,7 @@ key_shares task lines = each (λ j. map (λ (line : List ℕ). slice_index_or (k
 -- what a run has in shares at its beginning
 abbrev pub with_lines : Task → List (List ℕ) → Registers BitShares
 with_lines task lines = record { key = key_shares task lines; state = [] }
+
+-- and the bits that it holds then, under a key
+abbrev pub held_at_first : Task → List ℕ → Registers Bool
+held_at_first task key = record { key = key_bits task key; state = [] }

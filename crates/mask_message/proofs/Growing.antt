@@ -1,197 +1,183 @@
 -- A run that goes on behind whole batches.
-use Rattle.std.proofs.Common.{◌≡◌, ℕ, ◌+◌, ◌-◌, ◌*◌, ◌%◌, ◌<◌, ◌≤◌, false, Option, List, [], ◌++◌, None, length, refl, sym, ap, ap₂, ◌∙◌, subst, arith, length-append}
+use Rattle.std.proofs.Common.{◌≡◌, ℕ, ◌+◌, ◌-◌, ◌*◌, ◌%◌, ◌<◌, ◌≤◌, Bool, true, false, Option, List, [], ◌++◌, None, length, refl, sym, ap, ap₂, ◌∙◌, subst, arith, length-append}
 use Rattle.std.proofs.KnownBytes.{Appends-nil, Appends-trans, Consumes-nil, Consumes-trans}
+use Rattle.std.proofs.Math.Nat.{add-mod_left, zero-mod}
 use Rattle.std.specs.Io.KnownBytes.{Appends, Consumes}
 use Rattle.mask_tasks.specs.declared.tasks.Task.{Task}
-use Rattle.mask_tasks.specs.declared.tasks.Task.TheVariants.{Present, Lea}
 use Rattle.mask_tasks.specs.Tasks.{key_bytes, longest_message}
-use Rattle.mask_trace.specs.Steps.{Step}
-use Rattle.mask_trace.specs.Drawing.{Stand, Ran}
-use Rattle.mask_modes.specs.CounterMode.{MakesBlocks, block_count, ciphertext_from}
-use Rattle.mask_modes.specs.Steps.{blocks, steps_from}
-use Rattle.mask_modes.specs.Outputs.{key_of}
-use Rattle.mask_ciphers.specs.Tasks.{cipher_of, mode_of, key_bits, key_shares, output, plan, with_lines}
-use Rattle.mask_plan.specs.Sessions.{Progress, Begins, Evaluated, batch_length, have, next_steps, next_output}
 use Rattle.mask_keys.specs.Lines.{joined, line_length}
-use Rattle.mask_message.specs.Sessions.{HasKeyOf, HasTaken}
+use Rattle.mask_trace.specs.Steps.{Registers, Step}
+use Rattle.mask_trace.specs.Values.{value_after, values_of}
+use Rattle.mask_trace.specs.Drawing.{Stand, Ran}
 use Rattle.mask_trace.proofs.Drawing.{runs_join}
-use Rattle.mask_modes.proofs.Splitting.{messages_split}
-use Rattle.mask_modes.proofs.Keystreams.{ciphertext_fits}
-use Rattle.mask_modes.proofs.Readings.{bytes_are_read}
-use Rattle.mask_ciphers.proofs.Enciphering.{tasks_encipher}
-use Rattle.mask_ciphers.proofs.Writing.{outputs_are_ciphertexts}
+use Rattle.mask_ciphers.specs.Methods.{AreBatches, fed_steps, next_gates, run_gates}
+use Rattle.mask_ciphers.specs.Methods as methods
+use Rattle.mask_ciphers.specs.Tasks.{fed_output, held_at_first, method_of, output, plan, with_lines}
+use Rattle.mask_ciphers.specs.Laws.{held_behind}
+use Rattle.mask_ciphers.proofs.Batches.{some_batch}
+use Rattle.mask_ciphers.proofs.Gates.{gates_go_on}
+use Rattle.mask_ciphers.proofs.Writing.{messages_go_on}
+use Rattle.mask_plan.specs.Sessions.{Progress, Begins, Evaluated, batch_length, gates_for, next_steps, next_output}
+use Rattle.mask_message.specs.Sessions.{HasKeyOf, HasTaken}
 
 -- BATCHES
 
--- so many bytes are whole batches
-abbrev pub AreBatches : Task → ℕ → Type 0
-AreBatches task n = n % batch_length task ≡ 0
-
--- whole batches are whole blocks
-whole_blocks : (task : Task) (n : ℕ) → AreBatches task n → n ≡ block_count (mode_of task).block n * (mode_of task).block
-whole_blocks (Present size iv) n whole = omega arith
-whole_blocks (Lea size iv) n whole = omega arith
-
-pub block_is_some : (task : Task) → 0 < (mode_of task).block
-block_is_some (Present size iv) = omega arith
-block_is_some (Lea size iv) = omega arith
-
-pub no_batches : (task : Task) → AreBatches task 0
-no_batches (Present size iv) = refl
-no_batches (Lea size iv) = refl
-
-pub batches-more : (task : Task) (n k : ℕ) → AreBatches task n → k ≡ batch_length task → AreBatches task (n + k)
-batches-more (Present size iv) n k whole all = omega arith
-batches-more (Lea size iv) n k whole all = omega arith
+pub batches-more : (task : Task) (n k : ℕ) → AreBatches (method_of task) n → k ≡ batch_length task → AreBatches (method_of task) (n + k)
+batches-more task n k whole all =
+    let sum : n + k ≡ batch_length task + n = omega (arith, all) in
+    ap (λ (x : ℕ). x % batch_length task) sum ∙ add-mod_left (batch_length task) n ∙ whole
 
 -- a batch more leaves less room below the limit
 pub room-smaller : (task : Task) (fed fed' n : ℕ) → fed' ≡ fed + n → fed + n ≤ longest_message task → n ≡ batch_length task →
     longest_message task - fed' < longest_message task - fed
-room-smaller (Present size iv) fed fed' n is within all = omega arith
-room-smaller (Lea size iv) fed fed' n is within all = omega arith
+room-smaller task fed fed' n is within all = omega (arith, some_batch task)
 
--- PLANS AND CIPHERTEXTS
+-- STEPS
 
--- the steps of whole batches and more
-pub plan-more : (task : Task) (front piece : List ℕ) → AreBatches task (length front) →
-    plan task (front ++ piece) ≡ plan task front ++ steps_from (mode_of task) (block_count (mode_of task).block (length front)) (blocks (mode_of task).block piece)
-plan-more task front piece whole =
-    let m = mode_of task in
-    let n = block_count m.block (length front) in
-    let count = messages_split.count m.block n front (block_is_some task) (whole_blocks task (length front) whole) in
-    ap (steps_from m 0) (messages_split.cut m.block n front piece (block_is_some task) (whole_blocks task (length front) whole))
-    ∙ messages_split.steps m 0 (blocks m.block front) (blocks m.block piece)
-    ∙ ap (λ (i : ℕ). plan task front ++ steps_from m i (blocks m.block piece)) (omega (arith, count))
-
-pub length-key_bits : (task : Task) (key : List ℕ) → 8 * length key ≡ (mode_of task).key → length (key_bits task key) ≡ (mode_of task).key
-length-key_bits (Present size iv) key long = bytes_are_read.high_first.count key ∙ long
-length-key_bits (Lea size iv) key long = bytes_are_read.low_first.count key ∙ long
-
--- what is written of whole batches and more
-pub output-more : (task : Task) (key front piece : List ℕ) → 8 * length key ≡ (mode_of task).key → AreBatches task (length front) →
-    output task key (front ++ piece) ≡ output task key front
-    ++ ciphertext_from (mode_of task).block (mode_of task).iv (cipher_of task (key_bits task key)) (block_count (mode_of task).block (length front)) piece
-output-more task key front piece long whole =
-    let m = mode_of task in
-    let cipher = cipher_of task (key_bits task key) in
-    let n = block_count m.block (length front) in
-    let makes : MakesBlocks m.block m.iv cipher = ciphertext_fits.blocks m (cipher_of task) (key_bits task key) (tasks_encipher task) (length-key_bits task key long) in
-    outputs_are_ciphertexts.from_first task key (front ++ piece)
-    ∙ messages_split.ciphertext m.block m.iv cipher 0 n front piece (block_is_some task) makes (whole_blocks task (length front) whole)
-    ∙ ap₂ (λ (bytes : List ℕ) (i : ℕ). bytes ++ ciphertext_from m.block m.iv cipher i piece) (sym (outputs_are_ciphertexts.from_first task key front)) (omega arith)
+-- what is held behind steps and more steps
+value_after-append : (held : Registers Bool) (ss ts : List Step) → value_after held (ss ++ ts) ≡ value_after (value_after held ss) ts
+unfolding value_after
+value_after-append held [] ts = refl
+value_after-append held (s ∷ ss) ts = value_after-append _ ss ts
 
 -- RUNS
 
--- These bytes were encrypted under the key of these lines, and the session holds the key, in shares of its own.
-pub record Behind (task : Task) (N : ℕ) (lines : List (List ℕ)) (bytes : List ℕ) (s : Progress) (a b : Stand) : Type 0 where
-  pub ran : Ran N (with_lines task lines) (plan task bytes) (have s) a b
+-- These steps of a run under the key of these lines were evaluated for n bytes, and the session holds what they left.
+pub record Behind (task : Task) (N : ℕ) (lines : List (List ℕ)) (steps : List Step) (n : ℕ) (s : Progress) (a b : Stand) : Type 0 where
+  pub ran : Ran N (with_lines task lines) steps s.held a b
   pub task_is : s.task ≡ task
   pub unclosed : s.closed ≡ None
-  pub fed_is : s.fed ≡ length bytes
-  pub key : key_of (have s) ≡ key_bits task (joined lines)
-  pub within : length bytes ≤ longest_message task
+  pub fed_is : s.fed ≡ n
+  pub values : values_of s.held ≡ value_after (held_at_first task (joined lines)) steps
+  pub within : n ≤ longest_message task
 
--- Whole batches were encrypted, and what is written of them was written, since the source and the sink stood there.
-pub record SoFar (task : Task) (N : ℕ) (lines : List (List ℕ)) (bytes : List ℕ) (s : Progress) (left left' out out' : Option (List ℕ)) (a b : Stand) : Type 0 where
+-- behind whole batches
+abbrev pub BehindBatches : Task → ℕ → List (List ℕ) → List ℕ → Progress → Stand → Stand → Type 0
+BehindBatches task N lines front s a b = Behind task N lines (fed_steps (method_of task) front) (length front) s a b
+
+-- Whole batches were taken, what is written of them was written, and no more steps were counted than they have gates, since the
+-- source, the sink and the count stood there.
+pub record SoFar (task : Task) (N : ℕ) (lines : List (List ℕ)) (bytes : List ℕ) (s : Progress) (left left' out out' : Option (List ℕ)) (steps steps' : ℕ) (a b : Stand) : Type 0 where
   pub taken : Consumes left left' bytes
-  pub written : Appends out out' (output task (joined lines) bytes)
-  pub whole : AreBatches task (length bytes)
+  pub written : Appends out out' (fed_output task (joined lines) bytes)
+  pub whole : AreBatches (method_of task) (length bytes)
   pub unended : s.ended ≡ false
-  pub behind : Behind task N lines bytes s a b
-
-plan-none : (task : Task) → plan task [] ≡ []
-unfolding steps_from
-plan-none (Present size iv) = refl
-plan-none (Lea size iv) = refl
-
-within-none : (task : Task) → 0 ≤ longest_message task
-within-none task = omega arith
+  pub counted : steps' ≤ steps + run_gates (method_of task) (length bytes)
+  pub behind : BehindBatches task N lines bytes s a b
 
 -- a session that begins is behind no byte
-pub behind-none : (task : Task) (N : ℕ) (lines : List (List ℕ)) (s : Progress) (a : Stand) → a.kept ≡ [] → Begins task (key_shares task lines) s →
-    key_of (with_lines task lines) ≡ key_bits task (joined lines) → Behind task N lines [] s a a
+behind-none : (task : Task) (N : ℕ) (lines : List (List ℕ)) (s : Progress) (a : Stand) → a.kept ≡ [] → Begins task (with_lines task lines) s →
+    values_of (with_lines task lines) ≡ held_at_first task (joined lines) → BehindBatches task N lines [] s a a
+unfolding value_after
 behind-none task N lines s a fresh begins key =
     let few : length a.kept < 8 = omega (arith, ap length fresh) in
-    let holds : have s ≡ with_lines task lines = ap have begins in
+    let holds : s.held ≡ with_lines task lines = ap (λ (p : Progress). p.held) begins in
     record {
-      ran = rw (holds, plan-none task) (runs_join.none N (with_lines task lines) a few);
+      ran = rw (holds, messages_go_on.no_steps task) (runs_join.none N (with_lines task lines) a few);
       task_is = ap (λ (p : Progress). p.task) begins;
       unclosed = ap (λ (p : Progress). p.closed) begins;
       fed_is = ap (λ (p : Progress). p.fed) begins;
-      key = ap key_of holds ∙ key;
-      within = within-none task;
+      values = rw (messages_go_on.no_steps task) (ap values_of holds ∙ key);
+      within = omega arith;
     }
 
-module _ (task : Task) (N : ℕ) (lines : List (List ℕ)) (front piece : List ℕ) (s : Progress) (a b : Stand)
-    (behind : Behind task N lines front s a b) (whole : AreBatches task (length front)) where
+module _ (task : Task) (N : ℕ) (lines : List (List ℕ)) (front piece : List ℕ) (last : Bool) (s : Progress) (a b : Stand)
+    (behind : BehindBatches task N lines front s a b) (whole : AreBatches (method_of task) (length front)) where
   -- the session's next steps and output are those of the message
-  pub next_steps-are : next_steps s piece ≡ steps_from (mode_of task) (block_count (mode_of task).block (length front)) (blocks (mode_of task).block piece)
-  next_steps-are =
-      ap₂ (λ (t : Task) (n : ℕ). steps_from (mode_of t) (block_count (mode_of t).block n) (blocks (mode_of t).block piece)) behind.task_is behind.fed_is
+  next_steps-are : next_steps s piece last ≡ methods.next_steps (method_of task) (length front) piece last
+  next_steps-are = ap₂ (λ (t : Task) (n : ℕ). methods.next_steps (method_of t) n piece last) behind.task_is behind.fed_is
 
-  pub plan-goes_on : plan task (front ++ piece) ≡ plan task front ++ next_steps s piece
-  plan-goes_on = plan-more task front piece whole ∙ ap (λ (steps : List Step). plan task front ++ steps) (sym next_steps-are)
+  pub next_output-is : next_output s piece last ≡ methods.next_output (method_of task) (held_behind task (joined lines) front) (length front) piece last
+  next_output-is =
+      ap₂ (λ (t : Task) (n : ℕ). methods.next_output (method_of t) (values_of s.held) n piece last) behind.task_is behind.fed_is
+      ∙ ap (λ (held : Registers Bool). methods.next_output (method_of task) held (length front) piece last) behind.values
 
-  pub output-goes_on : 8 * length (joined lines) ≡ (mode_of task).key → output task (joined lines) (front ++ piece) ≡ output task (joined lines) front ++ next_output s piece
-  output-goes_on long =
-      output-more task (joined lines) front piece long whole
-      ∙ ap (λ (bytes : List ℕ). output task (joined lines) front ++ bytes) (sym (
-      ap₂ (λ (t : Task) (n : ℕ). ciphertext_from (mode_of t).block (mode_of t).iv (cipher_of t (key_of (have s))) (block_count (mode_of t).block n) piece) behind.task_is behind.fed_is
-      ∙ ap (λ k. ciphertext_from (mode_of task).block (mode_of task).iv (cipher_of task k) (block_count (mode_of task).block (length front)) piece) behind.key))
+  -- the gates that are evaluated for the piece are those that it adds
+  pub counted-more : length piece ≤ batch_length task → (steps now now' : ℕ) → now ≤ steps + run_gates (method_of task) (length front) →
+      now' ≤ now + gates_for s piece last → now' ≤ steps + run_gates (method_of task) (length (front ++ piece))
+  counted-more few steps now now' counted more =
+      let gates : gates_for s piece last ≡ next_gates (method_of task) (length front) piece last
+      = ap₂ (λ (t : Task) (n : ℕ). next_gates (method_of t) n piece last) behind.task_is behind.fed_is in
+      rw (length-append front piece) (omega (arith, gates, gates_go_on.piece task (length front) piece last whole few))
 
   -- the session took the piece
-  pub behind-more : (s' : Progress) (c : Stand) → Evaluated N s s' piece b c → HasTaken s s' piece → Behind task N lines (front ++ piece) s' a c
+  pub behind-more : (s' : Progress) (c : Stand) → Evaluated N s s' piece last b c → HasTaken s s' piece last →
+      Behind task N lines (fed_steps (method_of task) front ++ next_steps s piece last) (length (front ++ piece)) s' a c
   behind-more s' c evaluated now =
       let limit : s.fed + length piece ≤ longest_message task = subst (λ (t : Task). s.fed + length piece ≤ longest_message t) behind.task_is evaluated.within in
       let fed = behind.fed_is in
       let more : s'.fed ≡ s.fed + length piece = ap (λ (p : Progress). p.fed) now in
       let sum = length-append front piece in
       record {
-        ran = rw plan-goes_on (runs_join.all N (with_lines task lines) (have s) (have s') (plan task front) (next_steps s piece) a b c behind.ran evaluated.ran);
+        ran = runs_join.all N (with_lines task lines) s.held s'.held (fed_steps (method_of task) front) (next_steps s piece last) a b c behind.ran evaluated.ran;
         task_is = ap (λ (p : Progress). p.task) now ∙ behind.task_is;
         unclosed = ap (λ (p : Progress). p.closed) now ∙ behind.unclosed;
         fed_is = omega arith;
-        key = evaluated.key ∙ behind.key;
+        values = evaluated.values ∙ ap (λ (held : Registers Bool). value_after held (next_steps s piece last)) behind.values
+            ∙ sym (value_after-append (held_at_first task (joined lines)) (fed_steps (method_of task) front) (next_steps s piece last));
         within = omega arith;
       }
 
-output-none : (task : Task) (key : List ℕ) → output task key [] ≡ []
-unfolding output ciphertext_from
-output-none (Present size iv) key = refl
-output-none (Lea size iv) key = refl
+module _ (task : Task) (N : ℕ) (lines : List (List ℕ)) (front piece : List ℕ) (s : Progress) (a b : Stand)
+    (behind : BehindBatches task N lines front s a b) (whole : AreBatches (method_of task) (length front)) where
+  -- whole batches with more behind them, and the whole message
+  pub fed_steps-go_on : fed_steps (method_of task) (front ++ piece) ≡ fed_steps (method_of task) front ++ next_steps s piece false
+  fed_steps-go_on =
+      messages_go_on.steps_fed task front piece whole
+      ∙ ap (λ (steps : List Step). fed_steps (method_of task) front ++ steps) (sym (next_steps-are task N lines front piece false s a b behind whole))
+
+  pub plan-goes_on : plan task (front ++ piece) ≡ fed_steps (method_of task) front ++ next_steps s piece true
+  plan-goes_on =
+      messages_go_on.steps_last task front piece whole
+      ∙ ap (λ (steps : List Step). fed_steps (method_of task) front ++ steps) (sym (next_steps-are task N lines front piece true s a b behind whole))
+
+  pub fed_output-goes_on : length (joined lines) ≡ key_bytes task →
+      fed_output task (joined lines) (front ++ piece) ≡ fed_output task (joined lines) front ++ next_output s piece false
+  fed_output-goes_on long =
+      messages_go_on.output_fed task (joined lines) front piece long whole
+      ∙ ap (λ (bytes : List ℕ). fed_output task (joined lines) front ++ bytes) (sym (next_output-is task N lines front piece false s a b behind whole))
+
+  pub output-goes_on : length (joined lines) ≡ key_bytes task →
+      output task (joined lines) (front ++ piece) ≡ fed_output task (joined lines) front ++ next_output s piece true
+  output-goes_on long =
+      messages_go_on.output_last task (joined lines) front piece long whole
+      ∙ ap (λ (bytes : List ℕ). fed_output task (joined lines) front ++ bytes) (sym (next_output-is task N lines front piece true s a b behind whole))
 
 -- nothing was taken yet
-pub so_far-none : (task : Task) (N : ℕ) (lines : List (List ℕ)) (s : Progress) (left out : Option (List ℕ)) (a : Stand) → a.kept ≡ [] →
-    Begins task (key_shares task lines) s → key_of (with_lines task lines) ≡ key_bits task (joined lines) → SoFar task N lines [] s left left out out a a
-so_far-none task N lines s left out a fresh begins key = record {
+pub so_far-none : (task : Task) (N : ℕ) (lines : List (List ℕ)) (s : Progress) (left out : Option (List ℕ)) (steps : ℕ) (a : Stand) → a.kept ≡ [] →
+    Begins task (with_lines task lines) s → values_of (with_lines task lines) ≡ held_at_first task (joined lines) → SoFar task N lines [] s left left out out steps steps a a
+so_far-none task N lines s left out steps a fresh begins key = record {
   taken = Consumes-nil left;
-  written = rw (output-none task (joined lines)) (Appends-nil out);
-  whole = no_batches task;
+  written = rw (messages_go_on.no_output task (joined lines)) (Appends-nil out);
+  whole = zero-mod (batch_length task);
   unended = ap (λ (p : Progress). p.ended) begins;
+  counted = omega arith;
   behind = behind-none task N lines s a fresh begins key;
 }
 
 -- a batch more
-pub so_far-more : (task : Task) (N : ℕ) (lines : List (List ℕ)) (front piece : List ℕ) (s s' : Progress) (left mid left' out on out' : Option (List ℕ)) (a b c : Stand) →
-    SoFar task N lines front s left mid out on a b → Consumes mid left' piece → Behind task N lines (front ++ piece) s' a c → s'.ended ≡ false →
-    length piece ≡ batch_length task → 8 * length (joined lines) ≡ (mode_of task).key → Appends on out' (next_output s piece) →
-    SoFar task N lines (front ++ piece) s' left left' out out' a c
-so_far-more task N lines front piece s s' left mid left' out on out' a b c so_far taken behind unended all long written = record {
+pub so_far-more : (task : Task) (N : ℕ) (lines : List (List ℕ)) (front piece : List ℕ) (s s' : Progress) (left mid left' out on out' : Option (List ℕ)) (steps now steps' : ℕ) (a b c : Stand) →
+    SoFar task N lines front s left mid out on steps now a b → Consumes mid left' piece → Evaluated N s s' piece false b c → HasTaken s s' piece false →
+    length piece ≡ batch_length task → length (joined lines) ≡ key_bytes task → Appends on out' (next_output s piece false) → steps' ≡ now + gates_for s piece false →
+    SoFar task N lines (front ++ piece) s' left left' out out' steps steps' a c
+so_far-more task N lines front piece s s' left mid left' out on out' steps now steps' a b c so_far taken evaluated took all long written more = record {
   taken = Consumes-trans left mid left' front piece so_far.taken taken;
-  written = rw (output-goes_on task N lines front piece s a b so_far.behind so_far.whole long)
-      (Appends-trans out on out' (output task (joined lines) front) (next_output s piece) so_far.written written);
+  written = rw (fed_output-goes_on task N lines front piece s a b so_far.behind so_far.whole long)
+      (Appends-trans out on out' (fed_output task (joined lines) front) (next_output s piece false) so_far.written written);
   whole = rw (length-append front piece) (batches-more task (length front) (length piece) so_far.whole all);
-  unended = unended;
-  behind = behind;
+  unended = ap (λ (p : Progress). p.ended) took;
+  counted = counted-more task N lines front piece false s a b so_far.behind so_far.whole (omega arith) steps now steps' so_far.counted (omega arith);
+  behind = rw (fed_steps-go_on task N lines front piece s a b so_far.behind so_far.whole)
+      (behind-more task N lines front piece false s a b so_far.behind so_far.whole s' c evaluated took);
 }
 
 -- a session that begins under the key of lines
-pub has_key_of : (task : Task) (lines : List (List ℕ)) (s : Progress) → Begins task (key_shares task lines) s → line_length lines ≡ key_bytes task →
-    key_of (with_lines task lines) ≡ key_bits task (joined lines) → HasKeyOf lines s
+pub has_key_of : (task : Task) (lines : List (List ℕ)) (s : Progress) → Begins task (with_lines task lines) s → line_length lines ≡ key_bytes task →
+    values_of (with_lines task lines) ≡ held_at_first task (joined lines) → HasKeyOf lines s
 has_key_of task lines s begins long key =
     let is : task ≡ s.task = sym (ap (λ (p : Progress). p.task) begins) in
     record {
-      begins = subst (λ (t : Task). Begins t (key_shares t lines) s) is begins;
+      begins = subst (λ (t : Task). Begins t (with_lines t lines) s) is begins;
       long = subst (λ (t : Task). line_length lines ≡ key_bytes t) is long;
-      key = subst (λ (t : Task). key_of (with_lines t lines) ≡ key_bits t (joined lines)) is key;
+      key = subst (λ (t : Task). values_of (with_lines t lines) ≡ held_at_first t (joined lines)) is key;
     }

@@ -1,7 +1,6 @@
 -- Bytes from bits that are handed out in shares.
 use Rattle.std.proofs.Common.{◌≡◌, ℕ, zero, suc, ◌+◌, ◌*◌, ◌/◌, ◌%◌, ◌^◌, ◌<◌, ◌≤◌, Bool, false, List, [], ◌∷◌, ◌++◌, map, length, take, get_or, refl, ◌∙◌, sym, ap, ap₂, subst, arith}
-use Rattle.std.proofs.lemmas.List.{take_all, ext_get_or, get_or_default}
-use Rattle.std.proofs.lemmas.Nat.{mod_below}
+use Rattle.std.proofs.lemmas.List.{take_all, ext_get_or}
 use Rattle.mask_bits.specs.Lanes.{lane}
 use Rattle.mask_bits.specs.Reading.{AreBytes, bit, lowest, number}
 use Rattle.mask_bits.proofs.Numbers.{bit-number, number-lowest}
@@ -12,20 +11,14 @@ use Rattle.mask_circuit.proofs.Places.{length-each}
 use Rattle.mask_shares.proofs.Lists.{get_or-each}
 use Rattle.mask_eval.proofs.Shared.{unmasked_in_lane}
 use Rattle.mask_tasks.specs.declared.tasks.Task.{Task}
-use Rattle.mask_tasks.specs.declared.tasks.Task.TheVariants.{Present, Lea}
 use Rattle.mask_tasks.specs.Tasks.{key_bytes}
 use Rattle.mask_keys.specs.Lines.{joined, line_length}
 use Rattle.mask_trace.specs.Drawing.{Stand}
-use Rattle.mask_modes.specs.CounterMode.{MakesBlocks, counter, ciphertext_from}
-use Rattle.mask_modes.specs.Outputs.{key_of}
-use Rattle.mask_modes.specs.Steps.{Mode, block_at}
-use Rattle.mask_modes.proofs.Blocks.{block_at_is_block, xor_is_block}
-use Rattle.mask_modes.proofs.Keystreams.{ciphertext_fits, counter_is_block}
-use Rattle.mask_modes.proofs.CiphertextBlocks.{ciphertext_in_blocks}
-use Rattle.mask_ciphers.specs.Tasks.{cipher_of, mode_of}
-use Rattle.mask_ciphers.proofs.Enciphering.{tasks_encipher}
-use Rattle.mask_plan.specs.Sessions.{Progress, HandsOut, have, next_block, next_output, out_words}
-use Rattle.mask_message.proofs.Growing.{Behind, block_is_some, length-key_bits}
+use Rattle.mask_ciphers.specs.Methods.{AreBatches}
+use Rattle.mask_ciphers.specs.Tasks.{method_of}
+use Rattle.mask_ciphers.proofs.Writing.{pieces_are_written}
+use Rattle.mask_plan.specs.Sessions.{Progress, HandsOut, block_length, next_output, out_words}
+use Rattle.mask_message.proofs.Growing.{BehindBatches, next_output-is}
 
 -- the bits of byte `byte` of the block in a lane
 abbrev pub byte_bits : Progress → ℕ → ℕ → List Bool
@@ -68,7 +61,7 @@ same-byte x y lt lt' same =
     omega arith
 
 -- bytes are known by what their bits stand for
-pub same-bytes : (s : Progress) (block : ℕ) (bytes expected : List ℕ) → block ≡ (mode_of s.task).block → length bytes ≡ length expected →
+pub same-bytes : (s : Progress) (block : ℕ) (bytes expected : List ℕ) → block ≡ block_length s.task → length bytes ≡ length expected →
     ((k : ℕ) → k < length bytes → get_or bytes k 0 < 2 ^ 8) → AreBytes expected →
     ((k p : ℕ) → k < length bytes → p < 8 → bit p (get_or bytes k 0) ≡ unmasked bits (lane (k / block) (out_words s (k % block) p))) →
     HandsOut s expected → bytes ≡ expected
@@ -81,46 +74,19 @@ same-bytes s block bytes expected is size small are stand hands =
 
 -- WHAT IS HANDED OUT
 
-module _ (task : Task) (key : List Bool) (long : length key ≡ (mode_of task).key) (i : ℕ) (part : List ℕ) where
-  abbrev m : Mode
-  m = mode_of task
+-- the key that lines join to is as long as they are
+pub joined-long : (task : Task) (lines : List (List ℕ)) → line_length lines ≡ key_bytes task → length (joined lines) ≡ key_bytes task
+joined-long task lines long = length-each (λ b. unmasked words (map (λ (line : List ℕ). get_or line b 0) lines)) (line_length lines) ∙ long
 
-  makes : MakesBlocks m.block m.iv (cipher_of task key)
-  makes = ciphertext_fits.blocks m (cipher_of task) key (tasks_encipher task) long
+module _ (task : Task) (N : ℕ) (lines : List (List ℕ)) (front piece : List ℕ) (last : Bool) (s : Progress) (a b : Stand)
+    (behind : BehindBatches task N lines front s a b) (whole : AreBatches (method_of task) (length front)) (long : length (joined lines) ≡ key_bytes task) where
+  next-long : length (next_output s piece last) ≡ length piece
+  next-long = ap length (next_output-is task N lines front piece last s a b behind whole) ∙ pieces_are_written.as_long task (joined lines) front piece last long
 
-  pub length-ciphertext : length (ciphertext_from m.block m.iv (cipher_of task key) i part) ≡ length part
-  length-ciphertext = ciphertext_fits.as_long m.block m.iv (cipher_of task key) i part (block_is_some task) makes
-
-  -- a ciphertext of bytes is bytes
-  pub ciphertext_is_bytes : AreBytes part → AreBytes (ciphertext_from m.block m.iv (cipher_of task key) i part)
-  ciphertext_is_bytes are k d lt =
-      let b = m.block in
-      let j = k / b in
-      let within : k < length part = omega (arith, length-ciphertext) in
-      let block = xor_is_block m (block_at b part j) (cipher_of task key (counter b m.iv (i + j))) (block_at_is_block m part j are)
-      ((tasks_encipher task).is_block key (counter b m.iv (i + j)) long (counter_is_block m (i + j))) in
-      subst (λ (x : ℕ). x < 2 ^ 8)
-      (sym (get_or_default (ciphertext_from b m.iv (cipher_of task key) i part) k d 0 lt
-      ∙ ciphertext_in_blocks.byte b m.iv (cipher_of task key) i part k (block_is_some task) makes within))
-      (block.1 (k % b) 0 (rw block.0 (mod_below k b (block_is_some task))))
-
--- the key that lines join to has the bits of a key
-pub joined-long : (task : Task) (lines : List (List ℕ)) → line_length lines ≡ key_bytes task → 8 * length (joined lines) ≡ (mode_of task).key
-joined-long (Present size iv) lines long = omega (arith, long, length-each (λ b. unmasked words (map (λ (line : List ℕ). get_or line b 0) lines)) (line_length lines))
-joined-long (Lea size iv) lines long = omega (arith, long, length-each (λ b. unmasked words (map (λ (line : List ℕ). get_or line b 0) lines)) (line_length lines))
-
-module _ (task : Task) (N : ℕ) (lines : List (List ℕ)) (front piece : List ℕ) (s : Progress) (a b : Stand)
-    (behind : Behind task N lines front s a b) (long : 8 * length (joined lines) ≡ (mode_of task).key) where
-  key-long : length (key_of (have s)) ≡ (mode_of s.task).key
-  key-long = ap length behind.key ∙ length-key_bits task (joined lines) long ∙ ap (λ (t : Task). (mode_of t).key) (sym behind.task_is)
-
-  pub next-long : length (next_output s piece) ≡ length piece
-  next-long = length-ciphertext s.task (key_of (have s)) key-long (next_block s) piece
-
-  pub next-bytes : AreBytes piece → AreBytes (next_output s piece)
-  next-bytes are = ciphertext_is_bytes s.task (key_of (have s)) key-long (next_block s) piece are
+  next-bytes : AreBytes piece → AreBytes (next_output s piece last)
+  next-bytes are = rw (next_output-is task N lines front piece last s a b behind whole) (pieces_are_written.bytes task (joined lines) front piece last long are)
 
   -- what holds of all bytes that may be handed out holds of those that are due
-  pub due : (X : List ℕ → Type 0) (n : ℕ) (s' : Progress) → length piece ≡ n → AreBytes piece → HandsOut s' (next_output s piece) →
-      ((bytes : List ℕ) → length bytes ≡ n → AreBytes bytes → HandsOut s' bytes → X bytes) → X (next_output s piece)
-  due X n s' size are hands all = all (next_output s piece) (next-long ∙ size) (next-bytes are) hands
+  pub due : (X : List ℕ → Type 0) (n : ℕ) (s' : Progress) → length piece ≡ n → AreBytes piece → HandsOut s' (next_output s piece last) →
+      ((bytes : List ℕ) → length bytes ≡ n → AreBytes bytes → HandsOut s' bytes → X bytes) → X (next_output s piece last)
+  due X n s' size are hands all = all (next_output s piece last) (next-long ∙ size) (next-bytes are) hands

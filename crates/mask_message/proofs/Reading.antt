@@ -36,7 +36,8 @@ module _ (task : Task) (order asked : ℕ) (is : asked ≡ key_bytes task) where
         record {
           keys = keys;
           keys_taken = subst (λ (now : Option (List ℕ)). Consumes o.keys_before now keys) rest_is keys_taken;
-          bytes = takes.0;
-          taken = takes.1;
-          ends = Does lines (subst IsAtEnd rest_is are.at_end) are.within file (subst (λ (n : ℕ). Streams task n lines takes.0 o status) many takes.2);
+          bytes = takes.bytes;
+          taken = takes.taken;
+          ends = Does lines (subst IsAtEnd rest_is are.at_end) are.within file (subst (λ (n : ℕ). Streams task n lines takes.bytes o status) many takes.streams);
+          counted = takes.counted;
         }

@@ -1,28 +1,25 @@
 -- What the watch is told: evaluations of strong circuits alone.
-use Rattle.std.proofs.Common.{◌≡◌, ℕ, ◌≤◌, Bool, false, List, [], ◌++◌, length, take, replicate, refl, ◌∙◌, subst, arith, length-append, Option}
+use Rattle.std.proofs.Common.{◌≡◌, ℕ, ◌*◌, ◌≤◌, Bool, false, List, [], ◌++◌, length, take, replicate, refl, ◌∙◌, subst, arith, length-append, Option}
 use Rattle.std.proofs.lemmas.List.{length-replicate}
 use Rattle.std.proofs.lemmas.List.Elements.{All-nil, All-take}
 use Rattle.mask_bits.specs.Reading.{low}
 use Rattle.mask_tasks.specs.declared.tasks.Task.{Task}
+use Rattle.mask_tasks.specs.Tasks.{key_bytes}
 use Rattle.mask_eval.specs.Watching.{Told}
-use Rattle.mask_trace.specs.Steps.{IsStrongPlan, bits_of}
+use Rattle.mask_trace.specs.Steps.{bits_of}
 use Rattle.mask_trace.specs.Traces.{trace}
-use Rattle.mask_trace.specs.Values.{IsStrongEvaluation}
+use Rattle.mask_trace.specs.Values.{HasShares, IsStrongEvaluation}
 use Rattle.mask_gadget.proofs.Telling.{told_more-none}
 use Rattle.mask_trace.proofs.Drawing.{parts_are_beginnings}
 use Rattle.mask_trace.proofs.Computing.{traces_are_evaluations}
-use Rattle.mask_modes.specs.Outputs.{HasKey}
-use Rattle.mask_modes.specs.Steps.{blocks}
-use Rattle.mask_modes.proofs.Blocks.{blocks_are_long}
-use Rattle.mask_modes.proofs.Plans.{steps_are_strong}
-use Rattle.mask_ciphers.specs.Tasks.{cipher_of, mode_of, plan, with_lines}
+use Rattle.mask_ciphers.specs.Tasks.{plan, with_lines}
 use Rattle.mask_status.specs.declared.status.Status.{Status}
 use Rattle.mask_status.specs.declared.status.Status.TheVariants.{Done, Refused, BadWords, BadText, BadKeys, KeyFault, TooLong, ReadFault, TapeFault, WriteFault, BadProbe, NoMemory}
 use Rattle.mask_status.specs.Ends.{is_key_fault}
 use Rattle.mask_secrets.specs.KeyEnds.{IsOfKeys}
 use Rattle.mask_message.specs.Outside.{Outside}
 use Rattle.mask_message.specs.Encrypting.{RanSteps, Streams, TellsStrongCalls, at_first, at_last}
-use Rattle.mask_ciphers.proofs.Enciphering.{tasks_encipher}
+use Rattle.mask_ciphers.proofs.Breaking.{plans_are_strong}
 use Rattle.mask_ciphers.proofs.Joining.{lines_share_keys}
 
 -- nothing was told
@@ -32,26 +29,25 @@ tells_nothing N before now same = ([], same ∙ told_more-none before, All-nil (
 module _ (task : Task) (N : ℕ) (lines : List (List ℕ)) (o : Outside) (some : 2 ≤ N) (many : length lines ≡ N) where
   steps_tell : (bytes : List ℕ) (count : ℕ) → RanSteps task N lines bytes count o → TellsStrongCalls N o.told_before o.told_after
   steps_tell bytes count ran =
-      let m = mode_of task in
       let steps = plan task bytes in
       let held = with_lines task lines in
       let more : List Bool = replicate (bits_of N steps) false in
       let tape : List Bool = [] ++ low ran.part.ran.fresh ++ more in
-      let strong : IsStrongPlan m.key 0 steps = steps_are_strong.strong m (cipher_of task) 0 (blocks m.block bytes) (tasks_encipher task) (blocks_are_long m.block bytes) in
-      let has : HasKey N m held = subst (λ (n : ℕ). HasKey n m held) many (lines_share_keys.has_key task lines) in
+      let has : HasShares N (8 * key_bytes task) 0 held = subst (λ (n : ℕ). HasShares n (8 * key_bytes task) 0 held) many (lines_share_keys.has_key task lines) in
       let enough : bits_of N steps ≤ length tape = omega (arith, length-append (low ran.part.ran.fresh) more, length-replicate {A = Bool} (bits_of N steps) false) in (
         take count (trace N held steps tape),
         parts_are_beginnings N held steps count (at_first o) (at_last ran.kept o) ran.part more,
-        All-take (IsStrongEvaluation N) count (trace N held steps tape) (traces_are_evaluations N m.key 0 held steps tape (omega arith) strong has enough),
+        All-take (IsStrongEvaluation N) count (trace N held steps tape)
+            (traces_are_evaluations N (8 * key_bytes task) 0 held steps tape (omega arith) (plans_are_strong task bytes) has enough),
       )
 
   -- whatever the status
   pub streams_tell : (bytes : List ℕ) (status : Status) → Streams task N lines bytes o status → TellsStrongCalls N o.told_before o.told_after
   streams_tell bytes Done e = steps_tell bytes _ e.ran
   streams_tell bytes WriteFault e = steps_tell bytes _ e.ran
-  streams_tell bytes (TooLong limit) e = steps_tell (take limit bytes) _ e.3.ran
-  streams_tell bytes ReadFault e = steps_tell e.0 _ e.4.ran
-  streams_tell bytes NoMemory e = steps_tell e.0 _ e.4.ran
+  streams_tell bytes (TooLong limit) e = steps_tell bytes _ e.3.ran
+  streams_tell bytes ReadFault e = steps_tell bytes _ e.4.ran
+  streams_tell bytes NoMemory e = steps_tell bytes _ e.4.ran
   streams_tell bytes TapeFault e = steps_tell bytes e.count e.ran
   streams_tell bytes (Refused product source) e = absurd e
   streams_tell bytes (BadWords place) e = absurd e

@@ -1,5 +1,5 @@
 -- What `enc` does with key lines and a message, of which it took these bytes; N is the number of lines, so d is N - 1.
-use Rattle.std.specs.Prelude.{◌≡◌, ◌⊎◌, ℕ, pred, ◌+◌, ◌%◌, ◌<◌, ◌≤◌, Bool, List, [], ◌++◌, length, take, All}
+use Rattle.std.specs.Prelude.{◌≡◌, ◌⊎◌, ℕ, pred, ◌+◌, ◌<◌, ◌≤◌, Bool, List, [], ◌++◌, length, take, All}
 use Rattle.std.specs.declared.option.Option.{Option}
 use Rattle.std.specs.Io.KnownBytes.{Appends, Consumes, IsAtEnd}
 use Rattle.mask_bits.specs.Reading.{bytes_for}
@@ -11,9 +11,8 @@ use Rattle.mask_eval.specs.Watching.{Told, told_more}
 use Rattle.mask_trace.specs.Steps.{Step}
 use Rattle.mask_trace.specs.Drawing.{Stand, RanPart}
 use Rattle.mask_trace.specs.Values.{IsStrongEvaluation}
-use Rattle.mask_modes.specs.CounterMode.{block_count}
-use Rattle.mask_modes.specs.Steps.{ahead_of}
-use Rattle.mask_ciphers.specs.Tasks.{mode_of, output, plan, with_lines}
+use Rattle.mask_ciphers.specs.Methods.{AreBatches, ahead, fed_steps}
+use Rattle.mask_ciphers.specs.Tasks.{fed_output, method_of, output, plan, with_lines}
 use Rattle.mask_ciphers.specs.Totals.{total}
 use Rattle.mask_ciphers.specs.Laws.{IsPrivateRun}
 use Rattle.mask_plan.specs.Sessions.{batch_length}
@@ -22,6 +21,7 @@ use Rattle.mask_secrets.specs.KeyEnds.{KeyEnds}
 use Rattle.mask_status.specs.declared.status.Status.{Status}
 use Rattle.mask_status.specs.declared.status.Status.TheVariants.{Done, TooLong, ReadFault, TapeFault, WriteFault, NoMemory}
 use Rattle.mask_message.specs.Outside.{Outside}
+use Rattle.mask_message.specs.Counting.{most_run_steps}
 
 -- tape and watch before the run, which keeps no bit of an earlier one, and after it, whatever it keeps
 abbrev pub at_first : Outside → Stand
@@ -41,7 +41,7 @@ pub record RanSteps (task : Task) (N : ℕ) (lines : List (List ℕ)) (bytes : L
 abbrev pub RanAll : Task → ℕ → List (List ℕ) → List ℕ → Outside → Type 0
 RanAll task N lines bytes o = RanSteps task N lines bytes (length (plan task bytes)) o
 
--- The bytes are the whole message. Its ciphertext was written, and the tape gave just the stated number of bits.
+-- The bytes are the whole message. Its output was written, and the tape gave just the stated number of bits.
 pub record Encrypts (task : Task) (N : ℕ) (lines : List (List ℕ)) (bytes : List ℕ) (o : Outside) : Type 0 where
   pub at_end : IsAtEnd o.left_after
   pub within : length bytes ≤ longest_message task
@@ -49,44 +49,45 @@ pub record Encrypts (task : Task) (N : ℕ) (lines : List (List ℕ)) (bytes : L
   pub ran : RanAll task N lines bytes o
   pub drawn : length ran.part.ran.fresh ≡ bytes_for (total task (pred N) (length bytes))
 
--- Writing failed: all bytes, which are whole batches or the whole message, were encrypted, and a part of their ciphertext was
--- written, not all.
+-- Writing failed: all bytes, which are whole batches or the whole message, were taken, and a part of their output was written,
+-- not all.
 pub record CutsOff (task : Task) (N : ℕ) (lines : List (List ℕ)) (bytes : List ℕ) (o : Outside) : Type 0 where
-  pub whole : (length bytes % batch_length task ≡ 0) ⊎ IsAtEnd o.left_after
+  pub whole : AreBatches (method_of task) (length bytes) ⊎ IsAtEnd o.left_after
   pub within : length bytes ≤ longest_message task
   pub written : AppendsProperPrefix o.out_before o.out_after (output task (joined lines) bytes)
   pub ran : RanAll task N lines bytes o
 
--- whole batches were encrypted and written, and nothing else was drawn or told
-pub record WroteBatches (task : Task) (N : ℕ) (lines : List (List ℕ)) (front : List ℕ) (o : Outside) : Type 0 where
-  pub whole : length front % batch_length task ≡ 0
-  pub written : Appends o.out_before o.out_after (output task (joined lines) front)
-  pub ran : RanAll task N lines front o
+-- The first of the bytes, whole batches, were taken: what is written of them was written, and their steps, the first of the run,
+-- were evaluated, and nothing else was drawn or told.
+pub record WroteBatches (task : Task) (N : ℕ) (lines : List (List ℕ)) (bytes front : List ℕ) (o : Outside) : Type 0 where
+  pub whole : AreBatches (method_of task) (length front)
+  pub written : Appends o.out_before o.out_after (fed_output task (joined lines) front)
+  pub ran : RanSteps task N lines bytes (length (fed_steps (method_of task) front)) o
 
--- the run broke off behind whole batches; of what came behind them, which is as said, nothing was encrypted
+-- the run broke off behind whole batches; of what came behind them, which is as said, nothing was taken
 abbrev pub BreaksOff : Task → ℕ → List (List ℕ) → List ℕ → Outside → (ℕ → Type 0) → Type 0
 BreaksOff task N lines bytes o Rest = (front : List ℕ) × (more : List ℕ) × (bytes ≡ front ++ more) × Rest (length more)
-    × WroteBatches task N lines front o
+    × WroteBatches task N lines bytes front o
 
--- the refresh of the key that is due behind whole batches, or none
+-- what comes ahead of the next piece's own steps, as a refresh of the key that is due, or nothing
 abbrev pub due_behind : Task → List ℕ → List Step
-due_behind task front = ahead_of (mode_of task) (block_count (mode_of task).block (length front))
+due_behind task front = ahead (method_of task) (length front)
 
--- The tape failed for the bytes behind whole batches, some but no more than a batch. The batches were written, and all their steps
--- were evaluated, and then perhaps a refresh of the key, and nothing else. What the tape gave and what it wants are no more than the
--- whole run needs.
+-- The tape failed for the bytes behind whole batches, some but no more than a batch. What is written of the batches was written, and
+-- all their steps were evaluated, and then perhaps those that come ahead of the next ones, and nothing else. What the tape gave and
+-- what it wants are no more than the whole run needs.
 pub record FailsToDraw (task : Task) (N : ℕ) (lines : List (List ℕ)) (bytes : List ℕ) (o : Outside) : Type 0 where
   pub front : List ℕ
   pub more : List ℕ
   pub came : bytes ≡ front ++ more
-  pub whole : length front % batch_length task ≡ 0
+  pub whole : AreBatches (method_of task) (length front)
   pub some_came : 1 ≤ length more
   pub few_came : length more ≤ batch_length task
-  pub written : Appends o.out_before o.out_after (output task (joined lines) front)
+  pub written : Appends o.out_before o.out_after (fed_output task (joined lines) front)
   pub count : ℕ
   pub ran : RanSteps task N lines bytes count o
-  pub holds : length (plan task front) ≤ count
-  pub few : count ≤ length (plan task front) + length (due_behind task front)
+  pub holds : length (fed_steps (method_of task) front) ≤ count
+  pub few : count ≤ length (fed_steps (method_of task) front) + length (due_behind task front)
   pub wanted : 1 ≤ o.wanted
   pub within : length ran.part.ran.fresh + o.wanted ≤ bytes_for (total task (pred N) (length bytes))
 
@@ -95,23 +96,28 @@ abbrev pub Streams : Task → ℕ → List (List ℕ) → List ℕ → Outside �
 Streams task N lines bytes o Done = Encrypts task N lines bytes o
 Streams task N lines bytes o WriteFault = CutsOff task N lines bytes o
 Streams task N lines bytes o (TooLong limit) = (limit ≡ longest_message task) × (limit < length bytes) × (length bytes ≤ limit + batch_length task)
-    × WroteBatches task N lines (take limit bytes) o
+    × WroteBatches task N lines bytes (take limit bytes) o
 Streams task N lines bytes o ReadFault = BreaksOff task N lines bytes o (λ n. n < batch_length task)
 Streams task N lines bytes o NoMemory = BreaksOff task N lines bytes o (λ n. n ≤ batch_length task)
 Streams task N lines bytes o TapeFault = FailsToDraw task N lines bytes o
 Streams task N lines bytes o status = ⊥
 
--- These bytes of the message were taken, and they are as said.
-abbrev pub TakesMessage : Task → ℕ → List (List ℕ) → Outside → Status → Type 0
-TakesMessage task N lines o status = (bytes : List ℕ) × Consumes o.left_before o.left_after bytes × Streams task N lines bytes o status
+-- These bytes of the message were taken, and they are as said. No more steps were counted than a run on them has.
+pub record TakesMessage (task : Task) (N : ℕ) (lines : List (List ℕ)) (o : Outside) (status : Status) : Type 0 where
+  pub bytes : List ℕ
+  pub taken : Consumes o.left_before o.left_after bytes
+  pub streams : Streams task N lines bytes o status
+  pub counted : o.steps_after ≤ o.steps_before + most_run_steps task (length bytes)
 
--- What `enc` does at order d, N - 1: these bytes were taken of the key file and these of the message, and it ends so.
+-- What `enc` does at order d, N - 1: these bytes were taken of the key file and these of the message, and it ends so. No more steps
+-- were counted than a run on this message has.
 pub record Encs (task : Task) (N : ℕ) (o : Outside) (status : Status) : Type 0 where
   pub keys : List ℕ
   pub keys_taken : Consumes o.keys_before o.keys_after keys
   pub bytes : List ℕ
   pub taken : Consumes o.left_before o.left_after bytes
   pub ends : KeyEnds N (Exactly (key_bytes task)) (λ lines s. Streams task N lines bytes o s) keys o.keys_after status
+  pub counted : o.steps_after ≤ o.steps_before + most_run_steps task (length bytes)
 
 -- What the watch was told more are evaluations of strong circuits on N shares, and nothing else.
 abbrev pub TellsStrongCalls : ℕ → Option (List Told) → Option (List Told) → Type 0

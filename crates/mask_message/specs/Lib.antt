@@ -1,4 +1,5 @@
 pub mod Outside
+pub mod Counting
 pub mod Encrypting
 pub mod Sessions
 pub mod Stopping

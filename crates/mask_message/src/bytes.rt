@@ -8,8 +8,7 @@ ghost use Rattle.mask_bits.specs.Lanes.{lane};
 ghost use Rattle.mask_bits.specs.Reading.{AreBytes, bit};
 ghost use Rattle.mask_circuit.specs.Ring.{bits};
 ghost use Rattle.mask_circuit.specs.Sharing.{unmasked};
-ghost use Rattle.mask_ciphers.specs.Tasks.{mode_of};
-ghost use Rattle.mask_plan.specs.Sessions.{HandsOut, batch_length, out_words};
+ghost use Rattle.mask_plan.specs.Sessions.{HandsOut, batch_length, block_length, out_words};
 
 use mask_bits::bit_of;
 use mask_io::{Failed, Sink, write_all};
@@ -41,7 +40,7 @@ pub(crate) fn hand_out<const N: usize, O: Sink>(
 // The bytes of the latest blocks, of so many bytes each, one behind the other.
 fn unmask_bytes<const N: usize>(session: &Session<N>, block: usize, bytes: &mut [u8])
     requires few { N ≤ 8 }
-    requires block { block ≡ (mode_of session.now.task).block }
+    requires block { block ≡ block_length session.now.task }
     requires some { 0 < block }
     requires room { length bytes.old ≤ 64 * block }
     ensures { (expected : List ℕ) → length expected ≡ length bytes.old → AreBytes expected → HandsOut session.now expected → bytes.new ≡ expected }
@@ -55,7 +54,7 @@ fn unmask_bytes<const N: usize>(session: &Session<N>, block: usize, bytes: &mut 
 fn unmask_byte<const N: usize>(session: &Session<N>, column: u32, byte: u32) -> u8
     requires few { N ≤ 8 }
     requires column { column < 64 }
-    requires byte { byte < (mode_of session.now.task).block }
+    requires byte { byte < block_length session.now.task }
     ensures small { result < 2 ^ 8 }
     ensures bits { (p : ℕ) → p < 8 → bit p result ≡ unmasked bits (lane column (out_words session.now byte p)) }
 {

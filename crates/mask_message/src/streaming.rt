@@ -9,7 +9,9 @@ ghost use Rattle.mask_bits.specs.Reading.{AreBytes};
 ghost use Rattle.mask_counter.specs.Batches.{stand};
 ghost use Rattle.mask_plan.specs.declared.session.Stop.{Stop};
 ghost use Rattle.mask_plan.specs.declared.session.PlanError.TheVariants as PlanError;
-ghost use Rattle.mask_plan.specs.Sessions.{Evaluated, Refuses, batch_length};
+ghost use Rattle.mask_ciphers.specs.Methods.{IsCipher, start_steps};
+ghost use Rattle.mask_ciphers.specs.Tasks.{method_of};
+ghost use Rattle.mask_plan.specs.Sessions.{Evaluated, Refuses, batch_length, gates_for};
 ghost use Rattle.mask_status.specs.Ends.{is_read_fault, is_tape_fault, is_write_fault};
 ghost use Rattle.mask_message.specs.Outside.{Outside};
 ghost use Rattle.mask_message.specs.Encrypting.{TakesMessage, TellsStrongCalls};
@@ -105,8 +107,10 @@ fn encrypt_batches<const N: usize, S: Source, E: Entropy, O: Sink, W: Watch, L: 
     requires unended { session.old.ended ≡ false }
     requires piece { length piece.old ≡ batch_length session.old.task }
     requires room { length room.old ≡ batch_length session.old.task }
+
+    // Wherever the count stood before the session began.
     ensures ends { (lines : List (List ℕ)) → HasKeyOf lines session.old → (keys_before keys_after : Option (List ℕ)) (steps_before : ℕ) →
-        TakesMessage session.old.task N lines
+        steps.old ≤ steps_before + start_steps (method_of session.old.task) → TakesMessage session.old.task N lines
         (record {
           keys_before = keys_before;
           keys_after = keys_after;
@@ -132,7 +136,8 @@ fn encrypt_batches<const N: usize, S: Source, E: Entropy, O: Sink, W: Watch, L: 
             Ok(count) => count,
             Err(_) => return Status::ReadFault,
         };
-        match advance(session, &piece[..count], &mut tape, entropy, watch, steps) {
+        let last = count < piece.len();
+        match advance(session, &piece[..count], last, &mut tape, entropy, watch, steps) {
             Ok(()) => {}
             Err(stop) => return status_of(stop),
         }
@@ -140,7 +145,7 @@ fn encrypt_batches<const N: usize, S: Source, E: Entropy, O: Sink, W: Watch, L: 
             Ok(()) => {}
             Err(_) => return Status::WriteFault,
         }
-        if count < piece.len() {
+        if last {
             return Status::Done;
         }
     }
@@ -150,6 +155,7 @@ fn encrypt_batches<const N: usize, S: Source, E: Entropy, O: Sink, W: Watch, L: 
 fn advance<const N: usize, E: Entropy, W: Watch, L: Ledger>(
     session: &mut Session<N>,
     piece: &[u8],
+    last: bool,
     tape: &mut Tape,
     entropy: &mut E,
     watch: &mut W,
@@ -158,18 +164,19 @@ fn advance<const N: usize, E: Entropy, W: Watch, L: Ledger>(
     requires unclosed { session.old.closed ≡ None }
     requires unended { session.old.ended ≡ false }
     requires few { length piece.now ≤ batch_length session.old.task }
-    ensures evaluated { OnOk result (Evaluated N session.old session.new piece.now
+    requires whole { last ≡ false → length piece.now ≡ batch_length session.old.task }
+    ensures evaluated { OnOk result (Evaluated N session.old session.new piece.now last
         (stand tape.old (E.left entropy.old) (W.told watch.old)) (stand tape.new (E.left entropy.new) (W.told watch.new))) }
-    ensures now { OnOk result (HasTaken session.old session.new piece.now) }
+    ensures now { OnOk result (HasTaken session.old session.new piece.now last) }
     ensures bytes { AreBytes piece.now }
-    ensures goes_on { OnOk result (length piece.now ≡ batch_length session.old.task → session.new.ended ≡ false) }
-    ensures refused { IfErr result (Refuses N session.old piece.now (E.wanted entropy.new) steps.old steps.new
+    ensures counted { OnOk result (steps.new ≡ steps.old + gates_for session.old piece.now last) }
+    ensures refused { IfErr result (Refuses N session.old piece.now last (E.wanted entropy.new) steps.old steps.new
         (stand tape.old (E.left entropy.old) (W.told watch.old)) (stand tape.new (E.left entropy.new) (W.told watch.new))) }
     ensures tape_faults { MatchResult result
         (λ _. E.faults entropy.new ≡ E.faults entropy.old)
         (λ stop. E.faults entropy.new ≡ faults_after (is_of_tape stop) (E.faults entropy.old)) }
 {
-    if piece.len() < session.batch_bytes() {
+    if last {
         match session.end(piece, tape, entropy, watch, steps) {
             Ok(()) => Ok(()),
             Err(error) => Err(stop_of(error)),

@@ -7,7 +7,7 @@ use Rattle.mask_circuit.specs.Ring.{bits}
 use Rattle.mask_circuit.specs.Wires.{each}
 use Rattle.mask_circuit.specs.Sharing.{unmasked}
 use Rattle.mask_shares.proofs.Lists.{map-each, each-get_or}
-use Rattle.mask_trace.specs.Steps.{Public, Plain, Key, Registers, stretch}
+use Rattle.mask_trace.specs.Steps.{Public, Plain, Key, AsKey, Registers, kept, stretch}
 use Rattle.mask_trace.specs.Traces.{BitShares, output_shares, after_step, after}
 use Rattle.mask_trace.specs.Values.{values_of, input_value, step_value, value_after}
 use Rattle.mask_trace.proofs.Computing.{runs_compute}
@@ -31,6 +31,10 @@ all_values held public message =
     ∙ ap₂ (λ (front back : List Bool). front ++ back)
     (map-map (input_value held) Public public ∙ map-id public) (map-map (input_value held) Plain message ∙ map-id message))
 
+-- the registers with another key
+abbrev with_key_bits : Registers Bool → List Bool → Registers Bool
+with_key_bits held key = record { key = key; state = held.state }
+
 module _ (N : ℕ) (m : Mode) (cipher : Cipher) (two : 2 ≤ N) (is : Enciphers cipher m) where
   pub encrypted : (have : Registers BitShares) (i : ℕ) (block : List ℕ) (r : List Bool) → HasKey N m have → IsBlock m block →
       map (unmasked bits) (output_shares N have (block_step m i block) r) ≡ m.reading (xor_bytes block (cipher (key_of have) (counter m.block m.iv i)))
@@ -42,6 +46,28 @@ module _ (N : ℕ) (m : Mode) (cipher : Cipher) (two : 2 ≤ N) (is : Enciphers 
       ∙ ap (plain m.circuit) (all_values (values_of have) (m.reading count) (m.reading block))
       ∙ is.value (key_of have) count block size (counter_is_block m i) block_is
 
+  -- a refresh changes no bit of the key ..
+  refresh_value : (held : Registers Bool) → length held.key ≡ m.key → kept AsKey (step_value held (refresh_step m)) held ≡ held
+  refresh_value held size =
+      let value : step_value held (refresh_step m) ≡ held.key
+      = ap (λ (k : ℕ). plain m.refresh (map (input_value held) (each Key k))) (sym size)
+      ∙ ap (plain m.refresh) (key_value held)
+      ∙ is.circuits.refreshes held.key size in
+      ap (λ (bs : List Bool). kept AsKey bs held) value
+      ∙ ap (λ (key : List Bool). with_key_bits held key)
+      (ap (λ l. held.key ++ l) (drop_all (length held.key) held.key (omega arith)) ∙ append-nil held.key)
+
+  -- .. and no step changes what is held
+  pub values_stay : (held : Registers Bool) (i : ℕ) (part : List (List ℕ)) → length held.key ≡ m.key → value_after held (steps_from m i part) ≡ held
+  unfolding value_after steps_from
+  values_stay held i [] size = refl
+  values_stay held i (block ∷ part) size = go (is_due i) (values_stay held (suc i) part size)
+    where
+      go : (due : Bool) → value_after held (steps_from m (suc i) part) ≡ held →
+          value_after held (cond due (refresh_step m ∷ []) [] ++ block_step m i block ∷ steps_from m (suc i) part) ≡ held
+      go true more = ap (λ (now : Registers Bool). value_after now (steps_from m (suc i) part)) (refresh_value held size) ∙ more
+      go false more = more
+
   -- a refresh gives the key new shares, and no other value
   pub refreshed : (have : Registers BitShares) (r : List Bool) → HasKey N m have →
       HasKey N m (after_step N have (refresh_step m) r) × (key_of (after_step N have (refresh_step m) r) ≡ key_of have)
@@ -49,16 +75,7 @@ module _ (N : ℕ) (m : Mode) (cipher : Cipher) (two : 2 ≤ N) (is : Enciphers 
   refreshed have r has =
       let run = runs_compute.registers N m.key 0 have (refresh_step m ∷ []) r (omega arith) (refresh_step_is_strong m cipher is, tt) has in
       let size : length (key_of have) ≡ m.key = length-map have.key _ ∙ has.key in
-      let value : step_value (values_of have) (refresh_step m) ≡ key_of have
-      = ap (λ (k : ℕ). plain m.refresh (map (input_value (values_of have)) (each Key k))) (sym size)
-      ∙ ap (plain m.refresh) (key_value (values_of have))
-      ∙ is.circuits.refreshes (key_of have) size in (
-        run.0,
-        ap (λ (now : Registers Bool). now.key) run.1
-            ∙ ap (λ (bs : List Bool). bs ++ drop (length bs) (key_of have)) value
-            ∙ ap (λ l. key_of have ++ l) (drop_all (length (key_of have)) (key_of have) (omega arith))
-            ∙ append-nil (key_of have),
-      )
+      (run.0, ap (λ (now : Registers Bool). now.key) (run.1 ∙ refresh_value (values_of have) size))
 
   key_stays : (have : Registers BitShares) (i : ℕ) (part : List (List ℕ)) (r : List Bool) → HasKey N m have →
       HasKey N m (after N have (steps_from m i part) r) × (key_of (after N have (steps_from m i part) r) ≡ key_of have)
@@ -81,4 +98,5 @@ pub steps_encrypt : StepsEncrypt
 steps_encrypt = record {
   encrypted = λ N m cipher have i block r two is has block_is. encrypted N m cipher two is have i block r has block_is;
   key_stays = λ N m cipher have i part r two is has. key_stays N m cipher two is have i part r has;
+  values_stay = λ m cipher held i part is size. values_stay 2 m cipher (omega arith) is held i part size;
 }

@@ -8,6 +8,7 @@ use Rattle.mask_circuit.specs.Expansion.{draws}
 use Rattle.mask_circuit.specs.Sharing.{unmasked}
 use Rattle.mask_trace.specs.Steps.{Registers, IsStrongPlan, bits_of, sharing_bits}
 use Rattle.mask_trace.specs.Traces.{BitShares, after, output_shares}
+use Rattle.mask_trace.specs.Values.{value_after}
 use Rattle.mask_trace.specs.Privacy.{AreAlike, trace_hits}
 use Rattle.mask_trace.specs.Drawing.{Stand, Ran, RanPart}
 use Rattle.mask_modes.specs.CounterMode.{MakesBlocks, block_count, counter, ciphertext_from, xor_bytes}
@@ -78,7 +79,7 @@ RunsArePrivate = (N : ℕ) (m : Mode) (cipher : Cipher) (message other : List �
     trace_hits N key (steps_of m message) P v ≡ trace_hits N key' (steps_of m other) P v
 
 -- Whatever the tape, each block comes out as its XOR with the encrypted counter, and the key stays what it is, in fresh
--- shares or not.
+-- shares or not. On plain bits the steps change nothing of what is held.
 pub record StepsEncrypt : Type 0 where
   pub encrypted : (N : ℕ) (m : Mode) (cipher : Cipher) (have : Registers BitShares) (i : ℕ) (block : List ℕ) (r : List Bool) →
       2 ≤ N → Enciphers cipher m → HasKey N m have → IsBlock m block →
@@ -86,6 +87,8 @@ pub record StepsEncrypt : Type 0 where
   pub key_stays : (N : ℕ) (m : Mode) (cipher : Cipher) (have : Registers BitShares) (i : ℕ) (part : List (List ℕ)) (r : List Bool) →
       2 ≤ N → Enciphers cipher m → HasKey N m have →
       HasKey N m (after N have (steps_from m i part) r) × (key_of (after N have (steps_from m i part) r) ≡ key_of have)
+  pub values_stay : (m : Mode) (cipher : Cipher) (held : Registers Bool) (i : ℕ) (part : List (List ℕ)) →
+      Enciphers cipher m → length held.key ≡ m.key → value_after held (steps_from m i part) ≡ held
 
 -- Both readings of bytes are readings: where bit p of byte k stands. A counter is a big-endian number, and read high first
 -- its bits are those of the number.

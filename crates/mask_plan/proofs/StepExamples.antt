@@ -8,8 +8,8 @@ use Rattle.mask_present.proofs.Counting.{size-named_present}
 use Rattle.mask_refresh.specs.Refreshing.{refreshing}
 use Rattle.mask_refresh.proofs.Making.{size-refreshing}
 use Rattle.mask_modes.specs.CounterMode.{block_count}
+use Rattle.mask_ciphers.specs.Methods.{batch_gates}
 use Rattle.mask_ciphers.specs.Tasks.{present_mode}
-use Rattle.mask_plan.specs.Sessions.{batch_gates}
 
 gates_of_block : length (named_present K80).gates ≡ 15_958
 unfolding size_of

@@ -1,126 +1,163 @@
 -- What it comes to that a batch ran, or stopped, in a session.
-use Rattle.std.proofs.Common.{◌≡◌, ℕ, ◌+◌, ◌*◌, ◌/◌, ◌%◌, ◌<◌, ◌≤◌, Bool, false, List, [], ◌++◌, length, map, get_or, Option, None, refl, sym, ap, subst, ◌∙◌, arith}
+use Rattle.std.proofs.Common.{◌≡◌, ℕ, zero, suc, ◌+◌, ◌*◌, ◌/◌, ◌%◌, ◌^◌, ◌<◌, ◌≤◌, Bool, true, false, cond, List, [], ◌∷◌, ◌++◌, length, map, take, drop, get_or, refl, sym, ap, ap₂, subst, ◌∙◌, arith}
 use Rattle.std.specs.Prelude.{slice_index}
+use Rattle.std.specs.declared.option.Option.{Option}
 use Rattle.std.proofs.Math.ListN.{get_or-map}
+use Rattle.std.proofs.Math.Nat.{add-mod_left, zero-mod}
 use Rattle.std.proofs.lemmas.List.{length-map}
+use Rattle.std.proofs.lemmas.Nat.{mod_below}
 use Rattle.mask_bits.specs.Lanes.{lane}
 use Rattle.mask_bits.specs.Reading.{AreBytes, bit, low}
 use Rattle.mask_circuit.specs.Ring.{bits}
 use Rattle.mask_circuit.specs.Sharing.{unmasked}
 use Rattle.mask_circuit.specs.Wires.{each}
+use Rattle.mask_tape.specs.declared.tape.TapeError.{TapeError}
+use Rattle.mask_tape.specs.declared.tape.TapeError.TheVariants as tape_error
 use Rattle.mask_tasks.specs.declared.tasks.Task.{Task}
-use Rattle.mask_tasks.specs.Tasks.{longest_message}
 use Rattle.mask_trace.specs.Steps.{Registers, Step}
 use Rattle.mask_trace.specs.Traces.{BitShares, output_shares}
-use Rattle.mask_trace.specs.Drawing.{Stand, Ran}
+use Rattle.mask_trace.specs.Values.{HasShares, values_of, value_after}
+use Rattle.mask_trace.specs.Drawing.{Stand, Ran, RanPart}
 use Rattle.mask_modes.specs.CounterMode.{block_count, ciphertext_from}
-use Rattle.mask_modes.specs.Steps.{Mode, block_at, blocks, block_step, steps_from}
+use Rattle.mask_modes.specs.Steps.{Mode, Cipher, Enciphers, ahead_of, block_at, blocks, block_step, is_due, refresh_step, steps_from}
 use Rattle.mask_modes.specs.Outputs.{HasKey, key_of}
 use Rattle.mask_modes.proofs.Keystreams.{length-ciphertext, makes_blocks}
 use Rattle.mask_modes.proofs.Encrypting.{steps_encrypt}
 use Rattle.mask_modes.proofs.HandedOut.{outputs_are_bits}
-use Rattle.mask_counter.specs.Batches.{Between, BatchRan, have, mode}
-use Rattle.mask_ciphers.specs.Tasks.{cipher_of, mode_of}
-use Rattle.mask_ciphers.specs.Laws.{TasksEncipher}
+use Rattle.mask_counter.specs.Batches.{Between, BatchRan, BatchStopped, have, mode}
+use Rattle.mask_ciphers.specs.Methods.{Method, InCounterMode, batch, batch_gates, gates_of, key_width, next_gates}
+use Rattle.mask_ciphers.specs.Laws.{IsSound}
+use Rattle.mask_ciphers.specs.Tasks.{method_of}
 use Rattle.mask_plan.specs.declared.session.Stop.{Stop}
-use Rattle.mask_plan.specs.Sessions.{Evaluated, batch_gates, batch_length, bit_place}
-use Rattle.mask_plan.specs.Inside.{GoesOn, IsInOrder, progress}
+use Rattle.mask_plan.specs.Sessions.{Refuses, stop_of}
+use Rattle.mask_plan.specs.Inside.{AreEncrypted, Begin, GoesOn, IsBy, Stopped, Took, progress}
 use Rattle.mask_trace.proofs.Drawing.{runs_join}
+use Rattle.mask_ciphers.proofs.Gates.{refresh-gates}
+use Rattle.mask_ciphers.proofs.Batches.{batches_are_groups, block_of_byte, blocks_are_few, blocks_follow}
 use Rattle.mask_modes.proofs.BlockCounts.{block_count-whole}
-use Rattle.mask_plan.proofs.Places.{bit_stands, block_of_byte, byte_of_block, blocks_follow, some_bytes, whole_at_first, whole_follows}
+use Rattle.mask_plan.proofs.Places.{Places}
 
--- the number of the next block
-abbrev behind : Task → ℕ → ℕ
-behind task fed = block_count (mode_of task).block fed
+-- IN COUNTER MODE
 
-module _ (N : ℕ) (task : Task) (run run' : Between) (fed : ℕ) (piece : List ℕ) (a b : Stand) (in_mode : mode run ≡ mode_of task) (on : GoesOn N task fed run) where
-  -- what holds of the run's mode and the number of its next block holds of the task's
-  of_task : (P : Mode → ℕ → Type 0) → P (mode run) run.done → P (mode_of task) (behind task fed)
-  of_task P h = subst (λ (m : Mode). P m (behind task fed)) in_mode (subst (P (mode run)) on.done_is h)
+-- the registers with this key and no state
+abbrev with_key : List Bool → Registers Bool
+with_key key = record { key = key; state = [] }
 
-  ran_steps : BatchRan N run run' piece a b → Ran N (have run) (steps_from (mode_of task) (behind task fed) (blocks (mode_of task).block piece)) (have run') a b
-  ran_steps r = of_task (λ (m : Mode) (i : ℕ). Ran N (have run) (steps_from m i (blocks m.block piece)) (have run') a b) r.ran
+module _ (N : ℕ) (m : Mode) (cipher : Cipher) (is : Enciphers cipher m) (run : Between) (fed : ℕ) (on : AreEncrypted N m fed run) where
+  -- the number of the next block
+  abbrev i : ℕ
+  i = block_count m.block fed
 
-  module _ (encipher : TasksEncipher) (two : 2 ≤ N) (r : BatchRan N run run' piece a b) where
+  -- what holds of the run's mode and the number of its next block holds of these
+  of_run : (P : Mode → ℕ → Type 0) → P (mode run) run.done → P m i
+  of_run P h = subst (λ (n : Mode). P n i) on.in_mode (subst (P (mode run)) on.done_is h)
+
+  size : length (key_of (have run)) ≡ m.key
+  size = length-map run.shares (unmasked bits) ∙ on.has_key.key
+
+  module _ (run' : Between) (piece : List ℕ) (a b : Stand) (two : 2 ≤ N) (r : BatchRan N run run' piece a b) where
+    ran : Ran N (have run) (steps_from m i (blocks m.block piece)) (have run') a b
+    ran = of_run (λ (n : Mode) (j : ℕ). Ran N (have run) (steps_from n j (blocks n.block piece)) (have run') a b) r.ran
+
     -- the key stays, in fresh shares or not
-    pub key_stays : HasKey N (mode_of task) (have run') × (key_of (have run') ≡ key_of (have run))
+    key_stays : HasKey N m (have run') × (key_of (have run') ≡ key_of (have run))
     key_stays =
-        let ran = ran_steps r in
-        let stays = steps_encrypt.key_stays N (mode_of task) (cipher_of task) (have run) (behind task fed) (blocks (mode_of task).block piece) (a.kept ++ low ran.fresh)
-        two (encipher task) on.has_key in
-        subst (λ (now : Registers BitShares). HasKey N (mode_of task) now × (key_of now ≡ key_of (have run))) (sym ran.holds) stays
+        let stays = steps_encrypt.key_stays N m cipher (have run) i (blocks m.block piece) (a.kept ++ low ran.fresh) two is on.has_key in
+        subst (λ (now : Registers BitShares). HasKey N m now × (key_of now ≡ key_of (have run))) (sym ran.holds) stays
+
+    values : values_of (have run') ≡ value_after (values_of (have run)) (steps_from m i (blocks m.block piece))
+    values = ap with_key key_stays.1 ∙ sym (steps_encrypt.values_stay m cipher (values_of (have run)) i (blocks m.block piece) is size)
 
     -- the outputs stand for the ciphertext, bit by bit
-    outputs_stand : AreBytes piece → (k p : ℕ) → k < length piece → p < 8 →
-        unmasked bits (lane (k / (mode_of task).block) (get_or run'.outputs (bit_place task (k % (mode_of task).block) p) []))
-        ≡ bit p (slice_index (ciphertext_from (mode_of task).block (mode_of task).iv (cipher_of task (key_of (have run))) (behind task fed) piece) k)
-    outputs_stand are k p lt small =
-        let m = mode_of task in
+    outputs_stand : (place : ℕ → ℕ → ℕ) → Places (InCounterMode m cipher) place → AreBytes piece → (k p : ℕ) → k < length piece → p < 8 →
+        unmasked bits (lane (k / m.block) (get_or run'.outputs (place (k % m.block) p) []))
+        ≡ bit p (slice_index (ciphertext_from m.block m.iv (cipher (key_of (have run))) i piece) k)
+    outputs_stand place stand are k p lt small =
         let l = k / m.block in
-        let place = bit_place task (k % m.block) p in
-        let made = of_task (λ (m : Mode) (i : ℕ). (l : ℕ) → l < block_count m.block (length piece) →
-        map (lane l) run'.outputs ≡ output_shares N (have run') (block_step m (i + l) (block_at m.block piece l)) (r.tapes l)) r.made in
-        ap (unmasked bits) (sym (get_or-map (lane l) run'.outputs place [])
-        ∙ ap (λ (shares : List BitShares). get_or shares place []) (made l (block_of_byte task k (length piece) lt)))
-        ∙ outputs_are_bits N m (cipher_of task) (have run') (behind task fed) piece (r.tapes l) k p place two (encipher task) key_stays.0 are lt
-        (bit_stands task (k % m.block) p (byte_of_block task k) small)
-        ∙ ap (λ (key : List Bool). bit p (slice_index (ciphertext_from m.block m.iv (cipher_of task key) (behind task fed) piece) k)) key_stays.1
-
-    pub evaluated : (closed : Option Stop) (ended last : Bool) → closed ≡ None → AreBytes piece → fed + length piece ≤ longest_message task → (written : ℕ) →
-        Evaluated N (progress task run fed closed ended written) (progress task run' (fed + length piece) closed last (length piece)) piece a b
-    evaluated closed ended last is_open are within written = record {
-      unclosed = is_open;
-      within = within;
-      ran = ran_steps r;
-      key = key_stays.1;
-      hands_out = λ k p lt small.
-          let m = mode_of task in
-          let size : length (key_of (have run)) ≡ m.key = length-map run.shares (unmasked bits) ∙ on.has_key.key in
-          let long = length-ciphertext m.block m.iv (cipher_of task (key_of (have run))) (some_bytes task)
-          (makes_blocks m (cipher_of task) (key_of (have run)) (encipher task) size) (behind task fed) piece in
-          outputs_stand are k p (subst (λ (n : ℕ). k < n) long lt) small;
-    }
+        let at = place (k % m.block) p in
+        let made = of_run (λ (n : Mode) (j : ℕ). (l : ℕ) → l < block_count n.block (length piece) →
+        map (lane l) run'.outputs ≡ output_shares N (have run') (block_step n (j + l) (block_at n.block piece l)) (r.tapes l)) r.made in
+        ap (unmasked bits) (sym (get_or-map (lane l) run'.outputs at [])
+        ∙ ap (λ (shares : List BitShares). get_or shares at []) (made l (block_of_byte m.block k (length piece) is.circuits.some lt)))
+        ∙ outputs_are_bits N m cipher (have run') i piece (r.tapes l) k p at two is key_stays.0 are lt
+        (stand (k % m.block) p (mod_below k m.block is.circuits.some) small)
+        ∙ ap (λ (key : List Bool). bit p (slice_index (ciphertext_from m.block m.iv (cipher key) i piece) k)) key_stays.1
 
 -- a run behind a batch
 abbrev pub batch_done : Between → Between → ℕ → Between
 batch_done run run' done = record run { shares = run'.shares; done = done; outputs = run'.outputs }
 
--- behind another whole batch a session goes on
-pub goes_on : (N : ℕ) (task : Task) (run run' : Between) (fed : ℕ) (piece : List ℕ) → mode run ≡ mode_of task → GoesOn N task fed run → length piece ≡ batch_length task →
-    run'.done ≡ run.done + block_count run.block (length piece) → HasKey N (mode_of task) (have run') → GoesOn N task (fed + length piece) run'
-goes_on N task run run' fed piece in_mode on long done has = record {
-  whole = whole_follows task fed (length piece) on.whole long;
-  done_is = done ∙ ap (λ (i : ℕ). i + block_count run.block (length piece)) on.done_is
-      ∙ ap (λ (m : Mode). behind task fed + block_count m.block (length piece)) in_mode
-      ∙ sym (blocks_follow task fed (length piece) on.whole);
-  has_key = has;
+-- BY EVERY METHOD
+
+pub took : (N : ℕ) (method : Method) (place : ℕ → ℕ → ℕ) (run run' : Between) (fed : ℕ) (piece : List ℕ) (last : Bool) (a b : Stand) → 2 ≤ N → IsSound method →
+    Places method place → GoesOn N method fed run → BatchRan N run run' piece a b → AreBytes piece → Took N method place fed piece last run run' a b
+took N (InCounterMode m cipher) place run run' fed piece last a b two is stand on r are = record {
+  ran = ran N m cipher is run fed on run' piece a b two r;
+  values = values N m cipher is run fed on run' piece a b two r;
+  stand = λ k p lt small.
+      let long = length-ciphertext m.block m.iv (cipher (key_of (have run))) is.circuits.some
+      (makes_blocks m cipher (key_of (have run)) is (size N m cipher is run fed on)) (block_count m.block fed) piece in
+      outputs_stand N m cipher is run fed on run' piece a b two r place stand are k p (subst (λ (n : ℕ). k < n) long lt) small;
 }
 
--- the gates of the run's circuits are those of the task's
-pub gates_are : (N : ℕ) (task : Task) (run : Between) (fed : ℕ) (piece : List ℕ) → mode run ≡ mode_of task → GoesOn N task fed run →
-    batch_gates (mode run) run.done piece ≡ batch_gates (mode_of task) (behind task fed) piece
-gates_are N task run fed piece in_mode on =
-    ap (λ (i : ℕ). batch_gates (mode run) i piece) on.done_is ∙ ap (λ (m : Mode). batch_gates m (behind task fed) piece) in_mode
+-- behind another whole batch the run goes on
+pub goes_on : (N : ℕ) (method : Method) (run run' : Between) (fed : ℕ) (piece : List ℕ) (a b : Stand) → 2 ≤ N → IsSound method → GoesOn N method fed run →
+    BatchRan N run run' piece a b → run' ≡ batch_done run run' (run.done + block_count run.block (length piece)) → length piece ≡ batch method →
+    GoesOn N method (fed + length piece) run'
+goes_on N (InCounterMode m cipher) run run' fed piece a b two is on r done all = record {
+  in_mode = ap mode done ∙ on.in_mode;
+  whole = ap (λ (n : ℕ). n % (64 * m.block)) (omega (arith, all)) ∙ add-mod_left (64 * m.block) fed ∙ on.whole;
+  done_is = ap (λ (x : Between). x.done) done ∙ ap (λ (i : ℕ). i + block_count run.block (length piece)) on.done_is
+      ∙ ap (λ (n : Mode). block_count m.block fed + block_count n.block (length piece)) on.in_mode
+      ∙ sym (blocks_follow m.block fed (length piece) is.circuits.some on.whole);
+  has_key = (key_stays N m cipher is run fed on run' piece a b two r).0;
+}
 
--- all that a call says and keeps where a batch ran
-module _ (N : ℕ) (task : Task) (run run' : Between) (fed : ℕ) (piece : List ℕ) (a b : Stand) (closed : Option Stop) (ended last : Bool)
-    (order : IsInOrder N task fed closed ended run) (is_open : closed ≡ None) (unended : ended ≡ false) (encipher : TasksEncipher)
-    (r : BatchRan N run run' piece a b) (within : fed + length piece ≤ longest_message task) where
-  pub in_order : (done : ℕ) → run' ≡ batch_done run run' done → done ≡ run.done + block_count run.block (length piece) →
-      (last ≡ false → length piece ≡ batch_length task) → IsInOrder N task (fed + length piece) closed last run'
-  in_order done is done_is whole =
-      let on = order.goes_on is_open unended in
-      record {
-        some = order.some;
-        within = within;
-        in_mode = ap mode is ∙ order.in_mode;
-        goes_on = λ o not_last. goes_on N task run run' fed piece order.in_mode on (whole not_last) (ap (λ (x : Between). x.done) is ∙ done_is)
-            (key_stays N task run run' fed piece a b order.in_mode on encipher order.some r).0;
-      }
+-- the run is one by the method as long as its mode stays
+pub is_by : (N : ℕ) (method : Method) (run run' : Between) (fed : ℕ) → GoesOn N method fed run → mode run' ≡ mode run → IsBy method run'
+is_by N (InCounterMode m cipher) run run' fed on same = same ∙ on.in_mode
 
-  pub taken : (written : ℕ) → AreBytes piece →
-      Evaluated N (progress task run fed closed ended written) (progress task run' (fed + length piece) closed last (length piece)) piece a b
-  taken written are = evaluated N task run run' fed piece a b order.in_mode (order.goes_on is_open unended) encipher order.some r closed ended last is_open are within written
+-- the gates of the run's circuits are those of the method's
+pub gates_are : (N : ℕ) (method : Method) (run : Between) (fed : ℕ) (piece : List ℕ) (last : Bool) → GoesOn N method fed run →
+    batch_gates (mode run) run.done piece ≡ next_gates method fed piece last
+gates_are N (InCounterMode m cipher) run fed piece last on =
+    ap₂ (λ (n : Mode) (i : ℕ). batch_gates n i piece) on.in_mode on.done_is
+
+pub stopped : (N : ℕ) (method : Method) (run : Between) (fed : ℕ) (piece : List ℕ) (last : Bool) (wanted counted counted' : ℕ) (a b : Stand) → GoesOn N method fed run →
+    BatchStopped N run piece wanted counted counted' a b → Stopped N method fed piece last run wanted counted counted' a b
+stopped N (InCounterMode m cipher) run fed piece last wanted counted counted' a b on stop =
+    let of : (P : Mode → ℕ → Type 0) → P (mode run) run.done → P m (block_count m.block fed)
+    = λ P h. subst (λ (n : Mode). P n (block_count m.block fed)) on.in_mode (subst (P (mode run)) on.done_is h) in
+    let few = of (λ (n : Mode) (j : ℕ). stop.count ≤ length (ahead_of n j)) stop.few in
+    record {
+      count = stop.count;
+      ran = of (λ (n : Mode) (j : ℕ). RanPart N (have run) (steps_from n j (blocks n.block piece)) stop.count a b) stop.ran;
+      few = few;
+      next = stop.next;
+      later = stop.later;
+      follow = of (λ (n : Mode) (j : ℕ). drop stop.count (steps_from n j (blocks n.block piece)) ≡ stop.next ++ stop.later) stop.follow;
+      wants = stop.wants;
+      some = stop.some;
+      counts = stop.steps
+          ∙ ap (λ (gates : ℕ). counted + gates)
+          (ap (λ (n : Mode). stop.count * length n.refresh.gates) on.in_mode ∙ sym (refresh-gates m (block_count m.block fed) stop.count few));
+    }
+
+-- a batch fits
+pub batch_fits : (N : ℕ) (method : Method) (run : Between) (fed n : ℕ) → IsSound method → GoesOn N method fed run → n ≤ batch method → n ≤ 64 * run.block
+batch_fits N (InCounterMode m cipher) run fed n is on few = subst (λ (r : Mode). n ≤ 64 * r.block) (sym on.in_mode) few
+
+pub few_done : (N : ℕ) (method : Method) (run : Between) (fed most : ℕ) → IsSound method → GoesOn N method fed run → fed ≤ most → run.done ≤ most
+few_done N (InCounterMode m cipher) run fed most is on few = omega (arith, on.done_is, blocks_are_few m.block fed is.circuits.some)
+
+pub groups_done : (N : ℕ) (method : Method) (run : Between) (fed : ℕ) → IsSound method → GoesOn N method fed run → run.done % 64 ≡ 0
+groups_done N (InCounterMode m cipher) run fed is on =
+    ap (λ (n : ℕ). n % 64) on.done_is ∙ batches_are_groups m.block fed is.circuits.some on.whole
+
+pub some_block : (N : ℕ) (method : Method) (run : Between) (fed : ℕ) → IsSound method → GoesOn N method fed run → 0 < run.block
+some_block N (InCounterMode m cipher) run fed is on = subst (λ (r : Mode). 0 < r.block) (sym on.in_mode) is.circuits.some
+
+-- NO BYTES
 
 -- no bytes are no blocks, and they do nothing
 none_counted : (b n : ℕ) → 0 < b → n ≡ 0 → block_count b n ≡ 0
@@ -147,10 +184,36 @@ nothing_done run piece some none =
     let e : run.done ≡ run.done + block_count run.block (length piece) = omega (arith, none_counted run.block (length piece) some (ap length none)) in
     ap (with_done run) e
 
--- a session goes on from its beginning
-pub begins : (N : ℕ) (task : Task) (run : Between) → run.done ≡ 0 → HasKey N (mode_of task) (have run) → GoesOn N task 0 run
-begins N task run none has = record {
-  whole = whole_at_first task;
-  done_is = none ∙ sym (none_counted (mode_of task).block 0 (some_bytes task) refl);
-  has_key = has;
+-- a run goes on from its beginning
+pub begins : (N : ℕ) (method : Method) (shares : List BitShares) (run : Between) → IsSound method → Begin method shares run →
+    HasShares N (key_width method) 0 (record { key = shares; state = [] }) → GoesOn N method 0 run
+begins N (InCounterMode m cipher) shares run is begin has = record {
+  in_mode = begin.in_mode;
+  whole = zero-mod (64 * m.block);
+  done_is = begin.none ∙ sym (none_counted m.block 0 is.circuits.some refl);
+  has_key = subst (λ (key : List BitShares). HasKey N m (record { key = key; state = [] })) (sym begin.key) has;
 }
+
+pub begins_by : (method : Method) (shares : List BitShares) (run : Between) → Begin method shares run → IsBy method run
+begins_by (InCounterMode m cipher) shares run begin = begin.in_mode
+
+-- why a call was refused in which the tape failed, or memory
+pub refuses : (N : ℕ) (task : Task) (run : Between) (fed written : ℕ) (closed : Option Stop) (ended : Bool) (piece : List ℕ) (last : Bool)
+    (wanted counted counted' : ℕ) (a b : Stand) (error : TapeError) →
+    (error ≡ tape_error.Failed → Stopped N (method_of task) fed piece last run wanted counted counted' a b) →
+    (error ≡ tape_error.NoMemory → (b ≡ a) × (counted' ≡ counted)) →
+    Refuses N (progress task run fed closed ended written) piece last wanted counted counted' a b (stop_of error)
+refuses N task run fed written closed ended piece last wanted counted counted' a b tape_error.Failed failed full =
+    let stop = failed refl in
+    record {
+      count = stop.count;
+      ran = stop.ran;
+      few = stop.few;
+      next = stop.next;
+      later = stop.later;
+      follow = stop.follow;
+      wants = stop.wants;
+      some = stop.some;
+      counted = stop.counts;
+    }
+refuses N task run fed written closed ended piece last wanted counted counted' a b tape_error.NoMemory failed full = full refl

@@ -1,21 +1,30 @@
--- What holds of the run inside a session.
-use Rattle.std.specs.Prelude.{◌≡◌, ℕ, ◌%◌, ◌≤◌, Bool, false, List, Option, None}
+-- What holds of the run inside a session, and what a piece does to it.
+use Rattle.std.specs.Prelude.{◌≡◌, ℕ, ◌+◌, ◌*◌, ◌/◌, ◌%◌, ◌<◌, ◌≤◌, Bool, false, List, [], ◌++◌, length, drop, take, slice_index, slice_index_or, Option, None}
+use Rattle.mask_bits.specs.Lanes.{lane}
+use Rattle.mask_bits.specs.Reading.{bit}
+use Rattle.mask_circuit.specs.Ring.{bits}
+use Rattle.mask_circuit.specs.Sharing.{unmasked}
+use Rattle.mask_tape.specs.Tape.{new_bytes}
 use Rattle.mask_tasks.specs.declared.tasks.Task.{Task}
 use Rattle.mask_tasks.specs.Tasks.{longest_message}
+use Rattle.mask_trace.specs.Steps.{Step, bits_of}
 use Rattle.mask_trace.specs.Traces.{BitShares}
+use Rattle.mask_trace.specs.Values.{values_of, value_after}
+use Rattle.mask_trace.specs.Drawing.{Stand, Ran, RanPart}
 use Rattle.mask_modes.specs.CounterMode.{block_count}
 use Rattle.mask_modes.specs.Steps.{Mode}
 use Rattle.mask_modes.specs.Outputs.{HasKey}
 use Rattle.mask_counter.specs.Batches.{Between, have, mode}
-use Rattle.mask_ciphers.specs.Tasks.{mode_of}
+use Rattle.mask_ciphers.specs.Methods as methods
+use Rattle.mask_ciphers.specs.Tasks.{method_of}
 use Rattle.mask_plan.specs.declared.session.Stop.{Stop}
-use Rattle.mask_plan.specs.Sessions.{Progress, batch_length}
+use Rattle.mask_plan.specs.Sessions.{Progress}
 
 -- how a session stands whose parts these are
 abbrev pub progress : Task → Between → ℕ → Option Stop → Bool → ℕ → Progress
 progress task run fed closed ended written = record {
   task = task;
-  shares = run.shares;
+  held = have run;
   fed = fed;
   closed = closed;
   ended = ended;
@@ -29,16 +38,51 @@ pub record BeginsRun (m : Mode) (shares : List BitShares) (run : Between) : Type
   pub key : run.shares ≡ shares
   pub none : run.done ≡ 0
 
--- Whole batches were taken, and all their blocks encrypted. The key is there, in N shares of each bit.
-pub record GoesOn (N : ℕ) (task : Task) (fed : ℕ) (run : Between) : Type 0 where
-  pub whole : fed % batch_length task ≡ 0
-  pub done_is : run.done ≡ block_count (mode_of task).block fed
-  pub has_key : HasKey N (mode_of task) (have run)
+-- a run by this method, with these shares of the key, ahead of the message
+abbrev pub Begin : methods.Method → List BitShares → Between → Type 0
+Begin (methods.InCounterMode m cipher) shares run = BeginsRun m shares run
+
+-- A run by this method, which may be over.
+abbrev pub IsBy : methods.Method → Between → Type 0
+IsBy (methods.InCounterMode m cipher) run = mode run ≡ m
+
+-- It took so many bytes of a message, whole batches, and goes on: the key is there, in N shares of each bit.
+pub record AreEncrypted (N : ℕ) (m : Mode) (fed : ℕ) (run : Between) : Type 0 where
+  pub in_mode : mode run ≡ m
+  pub whole : fed % (64 * m.block) ≡ 0
+  pub done_is : run.done ≡ block_count m.block fed
+  pub has_key : HasKey N m (have run)
+
+abbrev pub GoesOn : ℕ → methods.Method → ℕ → Between → Type 0
+GoesOn N (methods.InCounterMode m cipher) fed run = AreEncrypted N m fed run
+
+-- Behind so many bytes these were taken, the last ones or not: all their steps were evaluated, and nothing else. What is held
+-- stands for what they compute, and what is handed out for what is written of them; `place` says where a block has a bit of a
+-- byte.
+pub record Took (N : ℕ) (method : methods.Method) (place : ℕ → ℕ → ℕ) (fed : ℕ) (piece : List ℕ) (last : Bool) (run run' : Between) (a b : Stand) : Type 0 where
+  pub ran : Ran N (have run) (methods.next_steps method fed piece last) (have run') a b
+  pub values : values_of (have run') ≡ value_after (values_of (have run)) (methods.next_steps method fed piece last)
+  pub stand : (k p : ℕ) → k < length (methods.next_output method (values_of (have run)) fed piece last) → p < 8 →
+      unmasked bits (lane (k / methods.block method) (slice_index_or run'.outputs (place (k % methods.block method) p) []))
+      ≡ bit p (slice_index (methods.next_output method (values_of (have run)) fed piece last) k)
+
+-- The tape failed behind the first of their steps, of those that come ahead of their own: it wants just the new bytes that the
+-- next ones need, at least one.
+pub record Stopped (N : ℕ) (method : methods.Method) (fed : ℕ) (piece : List ℕ) (last : Bool) (run : Between) (wanted counted counted' : ℕ) (a b : Stand) : Type 0 where
+  pub count : ℕ
+  pub ran : RanPart N (have run) (methods.next_steps method fed piece last) count a b
+  pub few : count ≤ length (methods.ahead method fed)
+  pub next : List Step
+  pub later : List Step
+  pub follow : drop count (methods.next_steps method fed piece last) ≡ next ++ later
+  pub wants : wanted ≡ new_bytes b.kept (bits_of N next)
+  pub some : 1 ≤ wanted
+  pub counts : counted' ≡ counted + methods.gates_of (take count (methods.ahead method fed))
 
 -- The run is one of the task, of which no more than the longest message was taken. A session that is neither closed nor at its
 -- end goes on.
 pub record IsInOrder (N : ℕ) (task : Task) (fed : ℕ) (closed : Option Stop) (ended : Bool) (run : Between) : Type 0 where
   pub some : 2 ≤ N
   pub within : fed ≤ longest_message task
-  pub in_mode : mode run ≡ mode_of task
-  pub goes_on : closed ≡ None → ended ≡ false → GoesOn N task fed run
+  pub by : IsBy (method_of task) run
+  pub goes_on : closed ≡ None → ended ≡ false → GoesOn N (method_of task) fed run

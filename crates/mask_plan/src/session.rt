@@ -2,17 +2,17 @@
 
 ghost use Rattle.std.specs.Prelude.{◌≡◌, ℕ, ◌+◌, ◌*◌, ◌<◌, ◌≤◌, true, false, [], length, slice_index, IfOk, OnOk, OnErr, Some, None, Err};
 ghost use Rattle.mask_io.specs.Outside.{faults_after};
-ghost use Rattle.mask_check.specs.Costs.{most_steps};
 ghost use Rattle.mask_counter.specs.Batches.{stand};
 ghost use Rattle.mask_tasks.specs.Tasks.{key_bytes, longest_message};
 ghost use Rattle.mask_keys.specs.Lines.{line_length};
-ghost use Rattle.mask_ciphers.specs.Tasks.{mode_of, key_shares};
-ghost use Rattle.mask_plan.specs.Sessions.{Answers, Begins, batch_length, out_words, failed_to_draw, stop_of};
+ghost use Rattle.mask_ciphers.specs.Tasks.{method_of, with_lines};
+ghost use Rattle.mask_ciphers.specs.Methods.{start_steps};
+ghost use Rattle.mask_plan.specs.Sessions.{Answers, Begins, batch_length, block_length, out_words, failed_to_draw, stop_of};
 
 use crate::keys::shares_of_key;
-use crate::pieces::encrypt_piece;
+use crate::pieces::take_piece;
 use crate::tasks::{bytes_at_once, place_in_block, run_of};
-use mask_ciphers::{lines_share_keys, tasks_encipher};
+use mask_ciphers::lines_share_keys;
 use mask_circuit::Steps;
 use mask_counter::CounterRun;
 use mask_eval::Watch;
@@ -80,8 +80,8 @@ impl<const N: usize> Session<N> {
         requires few { N ≤ 8 }
         requires lines { length key.now ≡ N }
         requires length { line_length key.now ≡ key_bytes task.now }
-        ensures begins { IfOk result (Begins task.now (key_shares task.now key.now)) }
-        ensures steps { steps.new ≤ steps.old + (most_steps (mode_of task.now).circuit + most_steps (mode_of task.now).refresh) }
+        ensures begins { IfOk result (Begins task.now (with_lines task.now key.now)) }
+        ensures steps { steps.new ≤ steps.old + start_steps (method_of task.now) }
     {
         lines_share_keys();
         let shares = shares_of_key::<N>(alloc, task, key)?;
@@ -193,11 +193,13 @@ impl<const N: usize> Session<N> {
             self.closed = Some(Stop::TooLong { limit });
             return Err(PlanError::Refused(Stop::TooLong { limit }));
         }
-        tasks_encipher();
-        match encrypt_piece(
+        match take_piece(
             self.alloc,
+            &self.task,
             &mut self.run,
+            self.fed,
             piece,
+            last,
             tape,
             entropy,
             watch,
@@ -232,7 +234,7 @@ impl<const N: usize> Session<N> {
 
     /// The shares of bit `place` of byte `byte` of the latest blocks, a block in each lane. Place 0 is the lowest bit.
     pub fn out_bit(&self, byte: u32, place: u32) -> Shares<N>
-        requires byte { byte < (mode_of self.now.task).block }
+        requires byte { byte < block_length self.now.task }
         requires place { place < 8 }
         ensures { result ≡ out_words self.now byte place }
     {

@@ -5,9 +5,10 @@ ghost use Rattle.mask_bits.specs.Lanes.{lane};
 ghost use Rattle.mask_check.specs.Costs.{most_steps};
 ghost use Rattle.mask_tasks.specs.Sizes.{present_bytes, lea_bytes};
 ghost use Rattle.mask_tasks.specs.Tasks.{key_bytes};
-ghost use Rattle.mask_ciphers.specs.Tasks.{mode_of, present_mode, lea_mode};
-ghost use Rattle.mask_plan.specs.Sessions.{batch_length, bit_place};
-ghost use Rattle.mask_plan.specs.Inside.{BeginsRun};
+ghost use Rattle.mask_ciphers.specs.Methods.{start_steps};
+ghost use Rattle.mask_ciphers.specs.Tasks.{method_of, present_mode, lea_mode};
+ghost use Rattle.mask_plan.specs.Sessions.{batch_length, bit_place, block_length};
+ghost use Rattle.mask_plan.specs.Inside.{Begin, BeginsRun};
 
 use mask_circuit::Steps;
 use mask_counter::{BitOrder, CounterRun};
@@ -31,10 +32,10 @@ pub(crate) fn bytes_at_once(task: &Task) -> usize
 
 /// Where a block has bit `place` of its byte `byte`.
 pub(crate) fn place_in_block(task: &Task, byte: u32, place: u32) -> usize
-    requires byte { byte < (mode_of task.now).block }
+    requires byte { byte < block_length task.now }
     requires place { place < 8 }
     ensures value { result ≡ bit_place task.now byte place }
-    ensures bound { result < 8 * (mode_of task.now).block }
+    ensures bound { result < 8 * block_length task.now }
 {
     match *task {
         Task::Present { .. } => 8 * (7 - byte as usize) + place as usize,
@@ -52,8 +53,8 @@ pub(crate) fn run_of<const N: usize, L: Ledger>(
     requires some { 2 ≤ N }
     requires few { N ≤ 8 }
     requires length { length key.now ≡ 8 * key_bytes task.now }
-    ensures begins { IfOk result (BeginsRun (mode_of task.now) (map (lane 0) key.now)) }
-    ensures steps { steps.new ≤ steps.old + (most_steps (mode_of task.now).circuit + most_steps (mode_of task.now).refresh) }
+    ensures begins { IfOk result (Begin (method_of task.now) (map (lane 0) key.now)) }
+    ensures steps { steps.new ≤ steps.old + start_steps (method_of task.now) }
 {
     match *task {
         Task::Present { size, iv } => present_run(alloc, size, iv, key, steps),

@@ -1,12 +1,12 @@
 -- How many steps and random bits a message takes.
-use Rattle.std.proofs.Common.{◌≡◌, ℕ, zero, suc, ◌+◌, ◌-◌, ◌*◌, ◌/◌, ◌%◌, ◌≤◌, Bool, true, false, not, ◌&&◌, ◌==◌, cond, List, [], ◌∷◌, ◌++◌, length, refl, ap, ap₂, sym, ◌∙◌, arith, eqb-true, length-append}
+use Rattle.std.proofs.Common.{◌≡◌, ℕ, suc, ◌+◌, ◌-◌, ◌*◌, ◌/◌, ◌%◌, ◌≤◌, Bool, true, false, not, ◌&&◌, ◌==◌, cond, List, [], ◌∷◌, length, refl, ap, arith, eqb-true, length-append}
 use Rattle.std.proofs.lemmas.Bool.{eqb-false}
 use Rattle.std.proofs.Math.Nat.{mul-le-mul_right}
 use Rattle.mask_circuit.proofs.Places.{length-each}
 use Rattle.mask_tasks.specs.declared.tasks.Task.{Task}
 use Rattle.mask_tasks.specs.declared.tasks.Task.TheVariants.{Present, Lea}
 use Rattle.mask_modes.specs.CounterMode.{block_count}
-use Rattle.mask_modes.specs.Steps.{Mode, ahead_of, block_at, block_step, blocks, is_due, refresh_step, steps_from}
+use Rattle.mask_modes.specs.Steps.{Mode, ahead_of, block_at, block_step, blocks, refresh_step, steps_from}
 use Rattle.mask_ciphers.specs.Tasks.{mode_of, plan}
 use Rattle.mask_ciphers.specs.Totals.{counter_bits, gate_bits, total}
 

@@ -1,9 +1,8 @@
 -- How a run ends by how its message ended.
-use Rattle.std.proofs.Common.{◌≡◌, ℕ, pred, ◌+◌, ◌<◌, ◌≤◌, Bool, true, false, List, [], ◌++◌, Some, None, Option, length, map, take, get_or, refl, ap, ap₂, sym, ◌∙◌, subst, arith, length-append, ◌⊎◌, inl, inr}
+use Rattle.std.proofs.Common.{◌≡◌, ℕ, pred, ◌+◌, ◌≤◌, Bool, true, false, List, [], ◌++◌, Some, Option, length, map, take, get_or, refl, ap, sym, ◌∙◌, subst, arith, length-append, ◌⊎◌, inl, inr}
 use Rattle.std.proofs.lemmas.Bool.{false≢true}
 use Rattle.std.proofs.lemmas.List.{append-nil, append_assoc}
 use Rattle.std.specs.Io.KnownBytes.{Appends, IsAtEnd}
-use Rattle.mask_bits.specs.Reading.{bytes_for}
 use Rattle.mask_tasks.specs.declared.tasks.Task.{Task}
 use Rattle.mask_circuit.specs.Ring.{words}
 use Rattle.mask_circuit.specs.Sharing.{unmasked}
@@ -11,17 +10,18 @@ use Rattle.mask_circuit.proofs.Places.{length-each}
 use Rattle.mask_tasks.specs.Tasks.{key_bytes, longest_message}
 use Rattle.mask_keys.specs.Lines.{joined, line_length}
 use Rattle.mask_ciphers.specs.Tasks.{output, plan}
-use Rattle.mask_ciphers.specs.Totals.{total}
 use Rattle.mask_ciphers.proofs.Writing.{outputs_are_ciphertexts}
 use Rattle.mask_status.specs.declared.status.Status.{Status}
 use Rattle.mask_status.specs.declared.status.Status.TheVariants.{Done, Refused, BadWords, BadText, BadKeys, KeyFault, TooLong, ReadFault, TapeFault, WriteFault, BadProbe, NoMemory}
-use Rattle.mask_status.specs.Ends.{is_read_fault, is_tape_fault}
+use Rattle.mask_status.specs.Ends.{is_read_fault}
 use Rattle.mask_io.specs.Outside.{faults_after}
 use Rattle.mask_message.specs.Outside.{Outside}
 use Rattle.mask_message.specs.Encrypting.{Encrypts, RanSteps, Streams, WroteBatches}
 use Rattle.mask_message.specs.Encrypting as run
+use Rattle.mask_message.specs.Counting.{most_run_steps}
+use Rattle.mask_message.proofs.Counting.{run_gates-grow}
 use Rattle.mask_message.proofs.Growing.{AreBatches}
-use Rattle.mask_self.specs.Selves.{RunsWhole, FailsToDraw, BreaksOff, Stops}
+use Rattle.mask_self.specs.Selves.{RunsWhole, FailsToDraw, BreaksOff}
 use Rattle.mask_self.proofs.Carrying.{same-whole, same-due, carried}
 use Rattle.mask_self.proofs.Counting.{totals_grow}
 
@@ -129,19 +129,15 @@ never_fails status counts = go (is_read_fault status) counts
     go true counts = absurd (omega arith)
     go false counts = refl
 
-pub no_tape_fault : (status : Status) → (status ≡ TapeFault → ⊥) → is_tape_fault status ≡ false
-no_tape_fault TapeFault not = absurd (not refl)
-no_tape_fault Done not = refl
-no_tape_fault WriteFault not = refl
-no_tape_fault (TooLong limit) not = refl
-no_tape_fault ReadFault not = refl
-no_tape_fault NoMemory not = refl
-no_tape_fault (Refused product source) not = refl
-no_tape_fault (BadWords place) not = refl
-no_tape_fault (BadText line reason) not = refl
-no_tape_fault (BadKeys reason) not = refl
-no_tape_fault KeyFault not = refl
-no_tape_fault (BadProbe place) not = refl
+-- STEPS
+
+-- no more were counted than for the whole message
+pub within_whole : (task : Task) (message bytes rest : List ℕ) (count before now : ℕ) → length message ≡ count → message ≡ bytes ++ rest →
+    now ≤ before + most_run_steps task (length bytes) → now ≤ before + most_run_steps task count
+within_whole task message bytes rest count before now size came few =
+    omega (arith, run_gates-grow task (length bytes) count (omega (arith, ap length came, length-append bytes rest)))
+
+-- LENGTHS
 
 -- a ciphertext is as long as its message
 pub length-output : (task : Task) (lines : List (List ℕ)) (message : List ℕ) → line_length lines ≡ key_bytes task → length (output task (joined lines) message) ≡ length message

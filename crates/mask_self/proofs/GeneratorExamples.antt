@@ -1,6 +1,5 @@
 -- The first bytes of seeds.
 use Rattle.std.proofs.Common.{◌≡◌, [], ◌∷◌, refl}
-use Rattle.mask_circuit.specs.Wires.{each}
 use Rattle.mask_self.specs.Generator.{bytes_from, next, top_byte}
 
 bytes_of_1 : bytes_from 1 0 8 ≡ 108 ∷ 130 ∷ 165 ∷ 98 ∷ 203 ∷ 128 ∷ 141 ∷ 16 ∷ []

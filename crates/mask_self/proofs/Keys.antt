@@ -1,11 +1,11 @@
 -- Key lines and numbers of bytes.
-use Rattle.std.proofs.Common.{◌≡◌, ℕ, ◌+◌, ◌*◌, ◌/◌, ◌^◌, ◌<◌, ◌≤◌, List, [], ◌∷◌, ◌++◌, length, take, get_or, fold, All, refl, ap, ap₂, sym, ◌∙◌, subst, arith, length-append}
+use Rattle.std.proofs.Common.{◌≡◌, ℕ, ◌+◌, ◌*◌, ◌/◌, ◌^◌, ◌<◌, ◌≤◌, List, [], ◌∷◌, length, take, get_or, All, ap, ap₂, sym, ◌∙◌, subst, arith, length-append}
 use Rattle.std.proofs.Math.Nat.{pow-le-pow_right, mul-div_cancel, mul-div_cancel_left}
 use Rattle.std.proofs.lemmas.List.{get_or_default, take_more, length-take-le}
 use Rattle.std.proofs.lemmas.List.Elements.{All-take, All-tail}
 use Rattle.std.proofs.lemmas.List.Sums.{fold-append}
 use Rattle.std.specs.List.{concat}
-use Rattle.mask_bits.specs.Reading.{AreBytes, big_endian, high, number}
+use Rattle.mask_bits.specs.Reading.{AreBytes, big_endian, high}
 use Rattle.mask_bits.proofs.Numbers.{number-lt}
 use Rattle.mask_modes.proofs.Readings.{number_of_high, length-high}
 use Rattle.mask_keys.specs.Lines.{AreKeyLines, line_length, lines_of}

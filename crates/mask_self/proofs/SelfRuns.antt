@@ -1,5 +1,5 @@
 -- A run on what is made of a seed.
-use Rattle.std.proofs.Common.{◌≡◌, ℕ, pred, suc, ◌+◌, ◌*◌, ◌-◌, ◌/◌, ◌≤◌, Bool, false, List, length, Option, refl, ap, ap₂, sym, ◌∙◌, subst, arith, add-one}
+use Rattle.std.proofs.Common.{◌≡◌, ℕ, suc, ◌+◌, ◌*◌, ◌-◌, ◌/◌, ◌≤◌, false, List, length, refl, ap, ap₂, sym, ◌∙◌, subst, arith, add-one}
 use Rattle.mask_bits.specs.Reading.{big_endian}
 use Rattle.mask_tasks.specs.declared.sizes.LeaSize.TheVariants.{K128}
 use Rattle.mask_tasks.specs.declared.tasks.Task.{Task}
@@ -11,9 +11,10 @@ use Rattle.mask_status.specs.declared.status.Status.{Status}
 use Rattle.mask_status.specs.declared.status.Status.TheVariants.{Done, Refused, BadWords, BadText, BadKeys, KeyFault, TooLong, ReadFault, TapeFault, WriteFault, BadProbe, NoMemory}
 use Rattle.mask_status.specs.Ends.{Writes, is_write_fault}
 use Rattle.mask_message.specs.Outside.{Outside}
+use Rattle.mask_message.specs.Counting.{most_run_steps}
 use Rattle.mask_self.specs.Generator.{number_at, bytes_from}
 use Rattle.mask_self.specs.Reports.{line, sum_of_blocks}
-use Rattle.mask_self.specs.Selves.{own_lines, own_iv, own_message, own_task, report, RunsWhole, Stops, RunsItself}
+use Rattle.mask_self.specs.Selves.{own_lines, own_message, own_task, report, RunsWhole, Stops, RunsItself}
 use Rattle.mask_self.proofs.Generating.{number_at-behind, bytes_from-behind, length-bytes_from}
 use Rattle.mask_self.proofs.Counting.{length-plan}
 
@@ -59,6 +60,9 @@ module _ (seed order first second iv count : ℕ) (lines : List (List ℕ)) (mad
       (subst (λ (n : ℕ). X (Lea K128 iv) n (own_lines seed (suc order)) (own_message seed (suc order) count)) (made.many ∙ add-one order)
       (subst (λ (ls : List (List ℕ)). X (Lea K128 iv) (length lines) ls (own_message seed (suc order) count)) (made.lines_are ∙ ap (own_lines seed) (add-one order))
       (subst (X (Lea K128 iv) (length lines) lines) message_own holds)))
+
+  pub counted_own : (before now : ℕ) → now ≤ before + most_run_steps (Lea K128 iv) count → now ≤ before + most_run_steps (own_task seed (suc order)) count
+  counted_own before now few = subst (λ (t : Task). now ≤ before + most_run_steps t count) task_own few
 
 -- WHAT IS PRINTED
 

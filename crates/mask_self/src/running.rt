@@ -8,10 +8,11 @@ ghost use Rattle.mask_keys.specs.Lines.{AreKeyLines, joined, line_length};
 ghost use Rattle.mask_ciphers.specs.Tasks.{output};
 ghost use Rattle.mask_status.specs.Ends.{ComesBeforeWriting, is_tape_fault, is_write_fault};
 ghost use Rattle.mask_message.specs.Outside.{Outside};
+ghost use Rattle.mask_message.specs.Counting.{most_run_steps};
 ghost use Rattle.mask_message.specs.Encrypting.{TellsStrongCalls};
 ghost use Rattle.mask_self.specs.Generator.{bytes_from};
 ghost use Rattle.mask_self.specs.Reports.{sum_of_blocks};
-ghost use Rattle.mask_self.specs.Selves.{RunsWhole, Stops, RunsItself};
+ghost use Rattle.mask_self.specs.Selves.{RunsWhole, Stops, RunsItself, own_task};
 
 use crate::collecting::Collected;
 use crate::generator::{Generator, Message};
@@ -69,6 +70,9 @@ pub fn self_run<E: Entropy, O: Sink, W: Watch, L: Ledger>(
     ensures out_faults { O.faults out.new ≡ faults_after (is_write_fault result) (O.faults out.old) }
     ensures wants { result ≡ Status.TapeFault → 1 ≤ E.wanted tape.new }
     ensures unwritten { ComesBeforeWriting result → out.new ≡ out.old }
+
+    // No more steps are counted than the whole run has.
+    ensures steps { steps.new ≤ steps.old + most_run_steps (own_task seed (suc order)) count }
 {
     let mut generator = Generator::new(seed);
     let lines = make_lines(&mut generator, order + 1);
@@ -131,6 +135,7 @@ fn sum_of_run<E: Entropy, W: Watch, L: Ledger>(
     ensures tape_faults { MatchResult result
         (λ _. E.faults tape.new ≡ E.faults tape.old)
         (λ status. E.faults tape.new ≡ faults_after (is_tape_fault status) (E.faults tape.old)) }
+    ensures steps { steps.new ≤ steps.old + most_run_steps task.now count }
 {
     let mut message = Message::new(generator, count as usize);
     let mut ciphertext = match Collected::with_room(alloc, count as usize) {

@@ -1,5 +1,5 @@
 use Rattle.std.proofs.Common.{refl, arith}
-use Rattle.mask_check.proofs.Passing.{HasCome-start, HasCome-new, HasCome-old, operands_in, IsVisit-words}
+use Rattle.mask_check.proofs.Passing.{HasCome-start, HasCome-new, HasCome-old, HasCome-unmarked, operands_in, IsVisit-words}
 use Rattle.mask_check.proofs.backward.pass.Goals as goal
 
 pub loop-value-init : goal.loop-value-init
@@ -47,5 +47,12 @@ loop-value-preserved g c = (
         lowest = c.lowest_common-bit.ensures.lowest;
       }))
       c.loop-value.invariant.0 c.if-bit-lowest.false,
+  omega (arith, c.tick.ensures, c.loop-value.invariant.1),
+)
+
+pub loop-value-preserved-then-right-value-eq0 : goal.loop-value-preserved-then-right-value-eq0
+loop-value-preserved-then-right-value-eq0 g c = (
+  HasCome-unmarked c.args.circuit.now _ _ c.loop-value.left c.loop-value.right _ _ c.loop-value.lowest (omega arith) c.requires.circuit
+      c.if-left-value-eq0.true c.if-right-value-eq0.true c.loop-value.invariant.0,
   omega (arith, c.tick.ensures, c.loop-value.invariant.1),
 )

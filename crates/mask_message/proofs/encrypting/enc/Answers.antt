@@ -1,4 +1,4 @@
-use Rattle.std.proofs.Common.{ℕ, [], add-one, refl, ◌∙◌, subst}
+use Rattle.std.proofs.Common.{ℕ, [], add-one, refl, ◌∙◌, subst, arith}
 use Rattle.std.proofs.KnownBytes.{Consumes-nil}
 use Rattle.mask_message.specs.Encrypting.{TellsStrongCalls}
 use Rattle.mask_message.proofs.Reading.{stops_under, lines_long, encs_under}
@@ -14,6 +14,7 @@ returns-in-Err-clause-ends g c =
       bytes = [];
       taken = Consumes-nil _;
       ends = stops_under c.args.task.now c.args.order _ c.key_length.ensures _ stopped.0 _ c.in-Err.status stopped.2;
+      counted = omega arith;
     }
 
 pub encrypt_message-requires-clause-length : goal.encrypt_message-requires-clause-length
@@ -29,7 +30,7 @@ returns-clause-ends g c =
 pub returns-clause-unread : goal.returns-clause-unread
 returns-clause-unread g c of_keys =
     let takes = c.encrypt_message.ensures.ends (g.K.Source.left c.args.keys.now) (g.K.Source.left c.read_lines.new.keys) in
-    absurd (streams_have_keys c.args.task.now _ c.in-Ok.lines _ takes.0 c.encrypt_message.result takes.2 of_keys)
+    absurd (streams_have_keys c.args.task.now _ c.in-Ok.lines _ takes.bytes c.encrypt_message.result takes.streams of_keys)
 
 pub returns-clause-secure : goal.returns-clause-secure
 returns-clause-secure g c =
@@ -40,4 +41,4 @@ returns-clause-secure g c =
 pub returns-clause-key_faults : goal.returns-clause-key_faults
 returns-clause-key_faults g c =
     let takes = c.encrypt_message.ensures.ends (g.K.Source.left c.args.keys.now) (g.K.Source.left c.read_lines.new.keys) in
-    rw (no_key_fault c.encrypt_message.result (streams_have_keys c.args.task.now _ c.in-Ok.lines _ takes.0 c.encrypt_message.result takes.2)) c.in-Ok.ensures.key_faults
+    rw (no_key_fault c.encrypt_message.result (streams_have_keys c.args.task.now _ c.in-Ok.lines _ takes.bytes c.encrypt_message.result takes.streams)) c.in-Ok.ensures.key_faults

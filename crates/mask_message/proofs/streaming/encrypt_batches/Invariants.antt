@@ -5,12 +5,12 @@ use Rattle.mask_message.specs.Sessions.{HasKeyOf}
 use Rattle.mask_message.proofs.Growing.{SoFar}
 use Rattle.mask_message.proofs.streaming.encrypt_batches.Given as goal
 
--- Whole batches were taken, encrypted and written, and nothing failed.
+-- Whole batches were taken, encrypted, written and counted, and nothing failed.
 abbrev pub invariant-batches : goal.invariant-batches
 invariant-batches g l = record {
   so_far : (lines : List (List ℕ)) → HasKeyOf lines l.fn.session →
       (front : List ℕ) × SoFar l.fn.session.task g.row.N lines front l.session (g.S.Source.left l.fn.input) (g.S.Source.left l.input)
-      (g.O.Sink.written l.fn.out) (g.O.Sink.written l.out)
+      (g.O.Sink.written l.fn.out) (g.O.Sink.written l.out) l.fn.steps l.steps
       (stand [] (g.E.Entropy.left l.fn.entropy) (g.W.Watch.told l.fn.watch)) (stand l.tape (g.E.Entropy.left l.entropy) (g.W.Watch.told l.watch));
   task_is : l.session.task ≡ l.fn.session.task;
   unclosed : l.session.closed ≡ None;

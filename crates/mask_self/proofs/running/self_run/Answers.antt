@@ -1,6 +1,6 @@
 use Rattle.std.proofs.Common.{ℕ, None, refl, ◌∙◌, subst, add-one}
 use Rattle.mask_message.specs.Encrypting.{TellsStrongCalls}
-use Rattle.mask_self.proofs.SelfRuns.{made_of, stops_early, stops_unwritten, stops_want, writes_line}
+use Rattle.mask_self.proofs.SelfRuns.{counted_own, made_of, stops_early, stops_unwritten, stops_want, writes_line}
 use Rattle.mask_self.proofs.running.self_run.Goals as goal
 
 pub returns-in-Err-clause-ends : goal.returns-in-Err-clause-ends
@@ -40,3 +40,19 @@ pub returns-clause-secure : goal.returns-clause-secure
 returns-clause-secure g c =
     subst (λ (n : ℕ). TellsStrongCalls n (g.W.Watch.told c.args.watch.now) (g.W.Watch.told c.sum_of_run.new.watch))
     (c.make_lines-lines.ensures.count ∙ add-one c.args.order) c.sum_of_run.ensures.secure
+
+pub returns-in-Err-clause-steps : goal.returns-in-Err-clause-steps
+returns-in-Err-clause-steps g c =
+    let lines = c.make_lines-lines in
+    let iv = c.make_iv-iv in
+    let made = made_of c.args.seed c.new-generator.result c.args.order lines.new.generator iv.new.generator iv.result lines.result c.new-generator.ensures lines.ensures.lines
+    lines.ensures.count lines.ensures.after iv.ensures.iv iv.ensures.after in
+    counted_own c.args.seed c.args.order lines.new.generator iv.new.generator iv.result c.args.count lines.result made _ _ c.sum_of_run.ensures.steps
+
+pub returns-clause-steps : goal.returns-clause-steps
+returns-clause-steps g c =
+    let lines = c.make_lines-lines in
+    let iv = c.make_iv-iv in
+    let made = made_of c.args.seed c.new-generator.result c.args.order lines.new.generator iv.new.generator iv.result lines.result c.new-generator.ensures lines.ensures.lines
+    lines.ensures.count lines.ensures.after iv.ensures.iv iv.ensures.after in
+    counted_own c.args.seed c.args.order lines.new.generator iv.new.generator iv.result c.args.count lines.result made _ _ c.sum_of_run.ensures.steps

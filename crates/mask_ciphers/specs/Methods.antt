@@ -1,0 +1,80 @@
+-- How a message is taken piece by piece: the steps of a piece, and what is written of it.
+--
+-- A piece is a batch, or the last bytes of the message. Behind n bytes, which are whole batches, it comes next.
+use Rattle.std.specs.Prelude.{◌≡◌, ℕ, ◌+◌, ◌-◌, ◌*◌, ◌%◌, ◌≤◌, Bool, cond, List, [], ◌∷◌, length, sum_by}
+use Rattle.mask_check.specs.Costs.{most_steps}
+use Rattle.mask_trace.specs.Steps.{Registers, Step}
+use Rattle.mask_modes.specs.CounterMode.{block_count, ciphertext_from}
+use Rattle.mask_modes.specs.Steps.{Mode, Cipher, ahead_of, blocks, is_due, steps_from, steps_of}
+
+-- in counter mode, the blocks of this cipher
+pub data Method : Type 0 where
+  InCounterMode : Mode → Cipher → Method
+
+-- how many bytes are taken at once: 64 blocks
+abbrev pub batch : Method → ℕ
+batch (InCounterMode m cipher) = 64 * m.block
+
+-- how many bytes a block has that is handed out
+abbrev pub block : Method → ℕ
+block (InCounterMode m cipher) = m.block
+
+-- so many bytes are whole batches
+abbrev pub AreBatches : Method → ℕ → Type 0
+AreBatches method n = n % batch method ≡ 0
+
+-- What is written are the pieces' own ciphertexts, and nothing but batches decides what they are.
+abbrev pub IsCipher : Method → Type 0
+IsCipher (InCounterMode m cipher) = Unit {0}
+
+-- the bits of a key
+abbrev pub key_width : Method → ℕ
+key_width (InCounterMode m cipher) = m.key
+
+-- the steps of a message
+abbrev pub plan : Method → List ℕ → List Step
+plan (InCounterMode m cipher) message = steps_of m message
+
+-- those of whole batches, behind which more of the message comes
+abbrev pub fed_steps : Method → List ℕ → List Step
+fed_steps (InCounterMode m cipher) front = steps_of m front
+
+-- those of the next piece, whether it is the last or not
+abbrev pub next_steps : Method → ℕ → List ℕ → Bool → List Step
+next_steps (InCounterMode m cipher) n piece last = steps_from m (block_count m.block n) (blocks m.block piece)
+
+-- those that come ahead of the next piece's own: in counter mode a refresh of the key, where one is due
+abbrev pub ahead : Method → ℕ → List Step
+ahead (InCounterMode m cipher) n = ahead_of m (block_count m.block n)
+
+-- what is written of the next piece, where these bits are held
+abbrev pub next_output : Method → Registers Bool → ℕ → List ℕ → Bool → List ℕ
+next_output (InCounterMode m cipher) held n piece last = ciphertext_from m.block m.iv (cipher held.key) (block_count m.block n) piece
+
+-- and how many bytes that are
+abbrev pub next_length : Method → List ℕ → Bool → ℕ
+next_length (InCounterMode m cipher) piece last = length piece
+
+-- how many gates are evaluated for the next piece: those of the cipher's circuit once for all blocks, and those of a refresh
+abbrev pub batch_gates : Mode → ℕ → List ℕ → ℕ
+batch_gates m i [] = 0
+batch_gates m i piece = cond (is_due i) (length m.refresh.gates) 0 + length m.circuit.gates
+
+abbrev pub next_gates : Method → ℕ → List ℕ → Bool → ℕ
+next_gates (InCounterMode m cipher) n piece last = batch_gates m (block_count m.block n) piece
+
+-- the gates of so many batches: one evaluation for all blocks of a batch, and a refresh of the key ahead of each batch but the first
+abbrev pub gates_of_batches : Mode → ℕ → ℕ
+gates_of_batches m count = count * length m.circuit.gates + (count - 1) * length m.refresh.gates
+
+-- how many gates are evaluated for n bytes, the last batch perhaps filled in part
+unfoldable pub run_gates : Method → ℕ → ℕ
+run_gates (InCounterMode m cipher) n = gates_of_batches m (block_count (64 * m.block) n)
+
+-- the gates of these steps' circuits
+abbrev pub gates_of : List Step → ℕ
+gates_of steps = sum_by (λ step. length step.circuit.gates) steps
+
+-- the most steps that its circuits take before they are evaluated: the values that the checker visits
+abbrev pub start_steps : Method → ℕ
+start_steps (InCounterMode m cipher) = most_steps m.circuit + most_steps m.refresh
