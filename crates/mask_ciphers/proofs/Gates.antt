@@ -7,7 +7,7 @@ use Rattle.mask_trace.specs.Steps.{Step}
 use Rattle.mask_modes.specs.CounterMode.{block_count}
 use Rattle.mask_modes.specs.Steps.{Mode, Cipher, Enciphers, ahead_of, is_due, refresh_step}
 use Rattle.mask_modes.proofs.BlockCounts.{block_count-add, block_count-whole, block_count_grows}
-use Rattle.mask_ciphers.specs.Methods.{Method, InCounterMode, AreBatches, ahead, batch, batch_gates, gates_of, gates_of_batches, next_gates, run_gates}
+use Rattle.mask_ciphers.specs.Methods.{Method, InCounterMode, AreBatches, MayEnd, ahead, batch, batch_gates, fed_gates, gates_of, gates_of_batches, next_gates, run_gates}
 use Rattle.mask_ciphers.specs.Tasks.{method_of}
 use Rattle.mask_ciphers.specs.Laws.{GatesGoOn, IsSound}
 use Rattle.mask_ciphers.proofs.Batches.{batches_of, blocks_of_batches}
@@ -95,24 +95,35 @@ module _ (m : Mode) (some : 0 < m.block) where
 
 -- BY EVERY METHOD
 
-piece_by : (method : Method) (n : ℕ) (piece : List ℕ) (last : Bool) → IsSound method → AreBatches method n → length piece ≤ batch method →
-    run_gates method (n + length piece) ≡ run_gates method n + next_gates method n piece last
-unfolding run_gates
-piece_by (InCounterMode m cipher) n piece last is whole few = piece-more m is.circuits.some n piece whole few
+fed_by : (method : Method) (n : ℕ) (piece : List ℕ) → IsSound method → AreBatches method n → length piece ≡ batch method →
+    fed_gates method (n + length piece) ≡ fed_gates method n + next_gates method n piece false
+unfolding fed_gates
+fed_by (InCounterMode m cipher) n piece is whole all = piece-more m is.circuits.some n piece whole (omega (arith, all))
+
+last_by : (method : Method) (n : ℕ) (piece : List ℕ) → IsSound method → AreBatches method n → MayEnd method n piece →
+    run_gates method (n + length piece) ≡ fed_gates method n + next_gates method n piece true
+unfolding run_gates fed_gates
+last_by (InCounterMode m cipher) n piece is whole few = piece-more m is.circuits.some n piece whole few
+
+fewer_by : (method : Method) (n : ℕ) → fed_gates method n ≤ run_gates method n
+unfolding run_gates fed_gates
+fewer_by (InCounterMode m cipher) n = omega arith
 
 grow_by : (method : Method) (n k : ℕ) → IsSound method → n ≤ k → run_gates method n ≤ run_gates method k
 unfolding run_gates
 grow_by (InCounterMode m cipher) n k is le =
     batches-grow m _ _ (block_count_grows (64 * m.block) n k (omega (arith, is.circuits.some)) le)
 
-ahead_by : (method : Method) (n count : ℕ) (piece : List ℕ) (last : Bool) → 1 ≤ length piece → count ≤ length (ahead method n) →
-    gates_of (take count (ahead method n)) ≤ next_gates method n piece last
+ahead_by : (method : Method) (n count : ℕ) (piece : List ℕ) (last : Bool) → 1 ≤ length piece → count ≤ length (ahead method n last) →
+    gates_of (take count (ahead method n last)) ≤ next_gates method n piece last
 ahead_by (InCounterMode m cipher) n count piece last some few =
     omega (arith, refresh-gates m (block_count m.block n) count few, ahead-few m (block_count m.block n) count piece some few)
 
 pub gates_go_on : GatesGoOn
 gates_go_on = record {
-  piece = λ task n piece last whole few. piece_by (method_of task) n piece last (tasks_encipher task) whole few;
+  fed = λ task n piece whole all. fed_by (method_of task) n piece (tasks_encipher task) whole all;
+  last = λ task n piece whole ends. last_by (method_of task) n piece (tasks_encipher task) whole ends;
+  fewer = λ task n. fewer_by (method_of task) n;
   grow = λ task n k le. grow_by (method_of task) n k (tasks_encipher task) le;
   ahead = λ task n count piece last some few. ahead_by (method_of task) n count piece last some few;
 }

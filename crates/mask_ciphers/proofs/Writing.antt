@@ -1,5 +1,5 @@
 -- What is written of a message, piece by piece.
-use Rattle.std.proofs.Common.{◌≡◌, ℕ, ◌+◌, ◌-◌, ◌*◌, ◌/◌, ◌%◌, ◌^◌, ◌<◌, Bool, true, false, List, [], ◌++◌, length, take, get_or, refl, sym, ap, ap₂, ◌∙◌, subst, arith}
+use Rattle.std.proofs.Common.{◌≡◌, ℕ, ◌+◌, ◌-◌, ◌*◌, ◌/◌, ◌%◌, ◌^◌, ◌<◌, ◌≤◌, Bool, true, false, List, [], ◌++◌, length, take, get_or, refl, sym, ap, ap₂, ◌∙◌, subst, arith}
 use Rattle.std.proofs.lemmas.List.{get_or_default}
 use Rattle.std.proofs.lemmas.Nat.{mod_below}
 use Rattle.mask_bits.specs.Reading.{AreBytes}
@@ -15,7 +15,7 @@ use Rattle.mask_modes.proofs.CiphertextBlocks.{ciphertext_in_blocks}
 use Rattle.mask_modes.proofs.Encrypting.{steps_encrypt}
 use Rattle.mask_modes.proofs.Keystreams.{ciphertext_fits, counter_is_block}
 use Rattle.mask_modes.proofs.Splitting.{messages_split}
-use Rattle.mask_ciphers.specs.Methods.{Method, InCounterMode, AreBatches, IsCipher, fed_steps, key_width, next_output, next_steps}
+use Rattle.mask_ciphers.specs.Methods.{Method, InCounterMode, AreBatches, IsCipher, MayEnd, batch, fed_steps, key_width, next_output, next_steps}
 use Rattle.mask_ciphers.specs.Methods as methods
 use Rattle.mask_ciphers.specs.Tasks.{fed_output, held_at_first, method_of, output, plan}
 use Rattle.mask_ciphers.specs.Laws.{CiphersGoOn, MessagesGoOn, OutputsAreCiphertexts, PiecesAreWritten, held_behind}
@@ -99,29 +99,31 @@ unfolding output fed_output ciphertext_from
 no_output (Present size iv) key = refl
 no_output (Lea size iv) key = refl
 
-fed_steps_go_on : (task : Task) (front piece : List ℕ) → AreBatches (method_of task) (length front) →
+fed_steps_go_on : (task : Task) (front piece : List ℕ) → AreBatches (method_of task) (length front) → length piece ≡ batch (method_of task) →
     fed_steps (method_of task) (front ++ piece) ≡ fed_steps (method_of task) front ++ next_steps (method_of task) (length front) piece false
-fed_steps_go_on (Present size iv) front piece whole = steps_more _ _ (tasks_encipher (Present size iv)) front piece whole
-fed_steps_go_on (Lea size iv) front piece whole = steps_more _ _ (tasks_encipher (Lea size iv)) front piece whole
+fed_steps_go_on (Present size iv) front piece whole all = steps_more _ _ (tasks_encipher (Present size iv)) front piece whole
+fed_steps_go_on (Lea size iv) front piece whole all = steps_more _ _ (tasks_encipher (Lea size iv)) front piece whole
 
-plan_goes_on : (task : Task) (front piece : List ℕ) → AreBatches (method_of task) (length front) →
+plan_goes_on : (task : Task) (front piece : List ℕ) → AreBatches (method_of task) (length front) → MayEnd (method_of task) (length front) piece →
     plan task (front ++ piece) ≡ fed_steps (method_of task) front ++ next_steps (method_of task) (length front) piece true
-plan_goes_on (Present size iv) front piece whole = steps_more _ _ (tasks_encipher (Present size iv)) front piece whole
-plan_goes_on (Lea size iv) front piece whole = steps_more _ _ (tasks_encipher (Lea size iv)) front piece whole
+plan_goes_on (Present size iv) front piece whole ends = steps_more _ _ (tasks_encipher (Present size iv)) front piece whole
+plan_goes_on (Lea size iv) front piece whole ends = steps_more _ _ (tasks_encipher (Lea size iv)) front piece whole
 
 output_goes_on : (task : Task) (key front piece : List ℕ) → length key ≡ key_bytes task → AreBatches (method_of task) (length front) →
+    MayEnd (method_of task) (length front) piece →
     output task key (front ++ piece) ≡ fed_output task key front ++ next_output (method_of task) (held_behind task key front) (length front) piece true
 unfolding output fed_output
-output_goes_on (Present size iv) key front piece long whole =
+output_goes_on (Present size iv) key front piece long whole ends =
     let task = Present size iv in output_more _ _ (tasks_encipher task) (held_at_first task key) (key_long task key long) front piece whole
-output_goes_on (Lea size iv) key front piece long whole =
+output_goes_on (Lea size iv) key front piece long whole ends =
     let task = Lea size iv in output_more _ _ (tasks_encipher task) (held_at_first task key) (key_long task key long) front piece whole
 
 fed_output_goes_on : (task : Task) (key front piece : List ℕ) → length key ≡ key_bytes task → AreBatches (method_of task) (length front) →
+    length piece ≡ batch (method_of task) →
     fed_output task key (front ++ piece) ≡ fed_output task key front ++ next_output (method_of task) (held_behind task key front) (length front) piece false
 unfolding fed_output
-fed_output_goes_on (Present size iv) key front piece long whole = output_goes_on (Present size iv) key front piece long whole
-fed_output_goes_on (Lea size iv) key front piece long whole = output_goes_on (Lea size iv) key front piece long whole
+fed_output_goes_on (Present size iv) key front piece long whole all = output_goes_on (Present size iv) key front piece long whole (omega (arith, all))
+fed_output_goes_on (Lea size iv) key front piece long whole all = output_goes_on (Lea size iv) key front piece long whole (omega (arith, all))
 
 pub messages_go_on : MessagesGoOn
 messages_go_on = record {
@@ -141,8 +143,19 @@ unfolding fed_output
 same_output (Present size iv) is key front = refl
 same_output (Lea size iv) is key front = refl
 
+may_end : (method : Method) → IsCipher method → (n : ℕ) (piece : List ℕ) → length piece ≤ batch method → MayEnd method n piece
+may_end (InCounterMode m cipher) is n piece few = few
+
+same_ahead : (method : Method) → IsCipher method → (n : ℕ) → methods.ahead method n false ≡ methods.ahead method n true
+same_ahead (InCounterMode m cipher) is n = refl
+
 pub ciphers_go_on : CiphersGoOn
-ciphers_go_on = record { steps = λ task is front. same_steps (method_of task) is front; output = same_output }
+ciphers_go_on = record {
+  ends = λ task is n piece few. may_end (method_of task) is n piece few;
+  ahead = λ task is n. same_ahead (method_of task) is n;
+  steps = λ task is front. same_steps (method_of task) is front;
+  output = same_output;
+}
 
 piece_long : (task : Task) (key front piece : List ℕ) (last : Bool) → length key ≡ key_bytes task →
     length (next_output (method_of task) (held_behind task key front) (length front) piece last) ≡ length piece

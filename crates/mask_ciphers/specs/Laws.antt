@@ -9,7 +9,7 @@ use Rattle.mask_trace.specs.Values.{HasShares, values_of, value_after}
 use Rattle.mask_trace.specs.Laws.{IsRun}
 use Rattle.mask_trace.specs.Privacy.{IsPrivateTrace}
 use Rattle.mask_modes.specs.Steps.{Enciphers}
-use Rattle.mask_ciphers.specs.Methods.{Method, InCounterMode, AreBatches, IsCipher, ahead, batch, fed_steps, gates_of, next_gates, next_output, next_steps, run_gates}
+use Rattle.mask_ciphers.specs.Methods.{Method, InCounterMode, AreBatches, IsCipher, MayEnd, ahead, batch, fed_gates, fed_steps, gates_of, next_gates, next_output, next_steps, run_gates}
 use Rattle.mask_ciphers.specs.Tasks.{fed_output, held_at_first, method_of, output, plan, with_lines}
 use Rattle.mask_ciphers.specs.Totals.{total}
 
@@ -35,17 +35,21 @@ held_behind task key front = value_after (held_at_first task key) (fed_steps (me
 pub record MessagesGoOn : Type 0 where
   pub no_steps : (task : Task) → fed_steps (method_of task) [] ≡ []
   pub no_output : (task : Task) (key : List ℕ) → fed_output task key [] ≡ []
-  pub steps_fed : (task : Task) (front piece : List ℕ) → AreBatches (method_of task) (length front) →
+  pub steps_fed : (task : Task) (front piece : List ℕ) → AreBatches (method_of task) (length front) → length piece ≡ batch (method_of task) →
       fed_steps (method_of task) (front ++ piece) ≡ fed_steps (method_of task) front ++ next_steps (method_of task) (length front) piece false
-  pub steps_last : (task : Task) (front piece : List ℕ) → AreBatches (method_of task) (length front) →
+  pub steps_last : (task : Task) (front piece : List ℕ) → AreBatches (method_of task) (length front) → MayEnd (method_of task) (length front) piece →
       plan task (front ++ piece) ≡ fed_steps (method_of task) front ++ next_steps (method_of task) (length front) piece true
   pub output_fed : (task : Task) (key front piece : List ℕ) → length key ≡ key_bytes task → AreBatches (method_of task) (length front) →
+      length piece ≡ batch (method_of task) →
       fed_output task key (front ++ piece) ≡ fed_output task key front ++ next_output (method_of task) (held_behind task key front) (length front) piece false
   pub output_last : (task : Task) (key front piece : List ℕ) → length key ≡ key_bytes task → AreBatches (method_of task) (length front) →
+      MayEnd (method_of task) (length front) piece →
       output task key (front ++ piece) ≡ fed_output task key front ++ next_output (method_of task) (held_behind task key front) (length front) piece true
 
--- A cipher takes and writes whole batches alike, whether more of the message comes or not.
+-- A cipher takes and writes whole batches alike, whether more of the message comes or not, and it may end behind any bytes.
 pub record CiphersGoOn : Type 0 where
+  pub ends : (task : Task) → IsCipher (method_of task) → (n : ℕ) (piece : List ℕ) → length piece ≤ batch (method_of task) → MayEnd (method_of task) n piece
+  pub ahead : (task : Task) → IsCipher (method_of task) → (n : ℕ) → ahead (method_of task) n false ≡ ahead (method_of task) n true
   pub steps : (task : Task) → IsCipher (method_of task) → (front : List ℕ) → fed_steps (method_of task) front ≡ plan task front
   pub output : (task : Task) → IsCipher (method_of task) → (key front : List ℕ) → fed_output task key front ≡ output task key front
 
@@ -59,11 +63,14 @@ pub record PiecesAreWritten : Type 0 where
 -- The gates of more bytes are those of the whole batches before them and those of the piece, no fewer than those of what comes
 -- ahead of it.
 pub record GatesGoOn : Type 0 where
-  pub piece : (task : Task) (n : ℕ) (piece : List ℕ) (last : Bool) → AreBatches (method_of task) n → length piece ≤ batch (method_of task) →
-      run_gates (method_of task) (n + length piece) ≡ run_gates (method_of task) n + next_gates (method_of task) n piece last
+  pub fed : (task : Task) (n : ℕ) (piece : List ℕ) → AreBatches (method_of task) n → length piece ≡ batch (method_of task) →
+      fed_gates (method_of task) (n + length piece) ≡ fed_gates (method_of task) n + next_gates (method_of task) n piece false
+  pub last : (task : Task) (n : ℕ) (piece : List ℕ) → AreBatches (method_of task) n → MayEnd (method_of task) n piece →
+      run_gates (method_of task) (n + length piece) ≡ fed_gates (method_of task) n + next_gates (method_of task) n piece true
+  pub fewer : (task : Task) (n : ℕ) → fed_gates (method_of task) n ≤ run_gates (method_of task) n
   pub grow : (task : Task) (n k : ℕ) → n ≤ k → run_gates (method_of task) n ≤ run_gates (method_of task) k
-  pub ahead : (task : Task) (n count : ℕ) (piece : List ℕ) (last : Bool) → 1 ≤ length piece → count ≤ length (ahead (method_of task) n) →
-      gates_of (take count (ahead (method_of task) n)) ≤ next_gates (method_of task) n piece last
+  pub ahead : (task : Task) (n count : ℕ) (piece : List ℕ) (last : Bool) → 1 ≤ length piece → count ≤ length (ahead (method_of task) n last) →
+      gates_of (take count (ahead (method_of task) n last)) ≤ next_gates (method_of task) n piece last
 
 -- A run draws just the stated bits.
 abbrev pub RunsDrawTotals : Type 0

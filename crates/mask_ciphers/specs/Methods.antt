@@ -23,6 +23,10 @@ block (InCounterMode m cipher) = m.block
 abbrev pub AreBatches : Method → ℕ → Type 0
 AreBatches method n = n % batch method ≡ 0
 
+-- These may be the last bytes of a message behind n others, which are whole batches.
+abbrev pub MayEnd : Method → ℕ → List ℕ → Type 0
+MayEnd (InCounterMode m cipher) n piece = length piece ≤ 64 * m.block
+
 -- What is written are the pieces' own ciphertexts, and nothing but batches decides what they are.
 abbrev pub IsCipher : Method → Type 0
 IsCipher (InCounterMode m cipher) = Unit {0}
@@ -44,8 +48,8 @@ abbrev pub next_steps : Method → ℕ → List ℕ → Bool → List Step
 next_steps (InCounterMode m cipher) n piece last = steps_from m (block_count m.block n) (blocks m.block piece)
 
 -- those that come ahead of the next piece's own: in counter mode a refresh of the key, where one is due
-abbrev pub ahead : Method → ℕ → List Step
-ahead (InCounterMode m cipher) n = ahead_of m (block_count m.block n)
+abbrev pub ahead : Method → ℕ → Bool → List Step
+ahead (InCounterMode m cipher) n last = ahead_of m (block_count m.block n)
 
 -- what is written of the next piece, where these bits are held
 abbrev pub next_output : Method → Registers Bool → ℕ → List ℕ → Bool → List ℕ
@@ -67,9 +71,13 @@ next_gates (InCounterMode m cipher) n piece last = batch_gates m (block_count m.
 abbrev pub gates_of_batches : Mode → ℕ → ℕ
 gates_of_batches m count = count * length m.circuit.gates + (count - 1) * length m.refresh.gates
 
--- how many gates are evaluated for n bytes, the last batch perhaps filled in part
+-- how many gates are evaluated for a message of n bytes, the last batch perhaps filled in part
 unfoldable pub run_gates : Method → ℕ → ℕ
 run_gates (InCounterMode m cipher) n = gates_of_batches m (block_count (64 * m.block) n)
+
+-- and for n bytes that are whole batches, behind which more of the message comes
+unfoldable pub fed_gates : Method → ℕ → ℕ
+fed_gates (InCounterMode m cipher) n = gates_of_batches m (block_count (64 * m.block) n)
 
 -- the gates of these steps' circuits
 abbrev pub gates_of : List Step → ℕ

@@ -1,8 +1,8 @@
 -- How a run ends behind whole batches.
-use Rattle.std.proofs.Common.{◌≡◌, ℕ, pred, suc, zero, ◌+◌, ◌*◌, ◌-◌, ◌<◌, ◌≤◌, Bool, false, List, [], ◌∷◌, ◌++◌, None, length, take, drop, refl, sym, ap, ap₂, ◌∙◌, subst, arith, length-append, Option, ◌⊎◌, inl, inr}
+use Rattle.std.proofs.Common.{◌≡◌, ℕ, pred, suc, zero, ◌+◌, ◌*◌, ◌-◌, ◌<◌, ◌≤◌, Bool, true, false, List, [], ◌∷◌, ◌++◌, None, length, take, drop, refl, sym, ap, ap₂, ◌∙◌, subst, arith, length-append, Option, ◌⊎◌, inl, inr}
 use Rattle.std.proofs.Math.Nat.{eq-or-lt_of_le}
 use Rattle.std.proofs.Math.Seq.{take-length, take-append-add}
-use Rattle.std.proofs.lemmas.List.{append-nil, length-drop, take-append-drop}
+use Rattle.std.proofs.lemmas.List.{append-nil, length-drop, nil_from_length, take-append-drop}
 use Rattle.std.proofs.KnownBytes.{Appends-trans, Consumes-nil, Consumes-trans}
 use Rattle.std.specs.Io.KnownBytes.{Appends, Consumes, IsAtEnd}
 use lib.Seq.{take-append_seam, drop-append-add}
@@ -17,7 +17,7 @@ use Rattle.mask_trace.specs.Values.{values_of}
 use Rattle.mask_trace.specs.Drawing.{Stand, Drew, Ran, RanPart}
 use Rattle.mask_trace.proofs.Traces.{traces_split}
 use Rattle.mask_trace.proofs.Drawing.{runs_join}
-use Rattle.mask_ciphers.specs.Methods.{IsCipher, fed_steps, start_steps}
+use Rattle.mask_ciphers.specs.Methods.{IsCipher, MayEnd, fed_steps, start_steps}
 use Rattle.mask_ciphers.specs.Methods as methods
 use Rattle.mask_ciphers.specs.Tasks.{fed_output, held_at_first, method_of, output, plan, with_lines}
 use Rattle.mask_ciphers.specs.Totals.{total}
@@ -37,7 +37,7 @@ use Rattle.mask_message.specs.Counting.{most_run_steps}
 use Rattle.mask_message.specs.Encrypting.{RanAll, WroteBatches, FailsToDraw, Streams, TakesMessage, at_first, at_last, due_behind}
 use Rattle.mask_message.specs.Sessions.{HasTaken}
 use Rattle.mask_message.specs.Stopping.{is_of_tape, status_of}
-use Rattle.mask_message.proofs.Growing.{Behind, SoFar, so_far-none, batches-more, behind-more, plan-goes_on, fed_steps-go_on, output-goes_on, fed_output-goes_on, counted-more}
+use Rattle.mask_message.proofs.Growing.{Behind, SoFar, so_far-none, batches-more, behind-more, plan-goes_on, fed_steps-go_on, output-goes_on, fed_output-goes_on, counted-fed, counted-last, gates-are}
 
 -- BITS AND BYTES
 
@@ -127,17 +127,29 @@ full_or_end n room End few end = go (eq-or-lt_of_le few)
     go (inl all) = inl all
     go (inr less) = inr (end less)
 
-module _ (task : Task) (N : ℕ) (lines : List (List ℕ)) (o : Outside) (kept : List Bool) (some : 2 ≤ N) (front : List ℕ) (s : Progress) (left on : Option (List ℕ)) (steps now : ℕ) (b : Stand)
+module _ (task : Task) (N : ℕ) (lines : List (List ℕ)) (o : Outside) (kept : List Bool) (some : 2 ≤ N) (cipher : IsCipher (method_of task))
+    (front : List ℕ) (s : Progress) (left on : Option (List ℕ)) (steps now : ℕ) (b : Stand)
     (so_far : SoFar task N lines front s o.left_before left o.out_before on steps now (at_first o) b) (begun : steps ≤ o.steps_before + start_steps (method_of task)) where
-  -- no more was counted than for the piece
-  counted : (piece : List ℕ) (last : Bool) → length piece ≤ batch_length task → o.steps_after ≤ now + gates_for s piece last →
+  -- the message may end behind any bytes
+  ends : (piece : List ℕ) → length piece ≤ batch_length task → MayEnd (method_of task) (length front) piece
+  ends piece few = ciphers_go_on.ends task cipher (length front) piece few
+
+  -- no more was counted than for the piece, the last one or another
+  counted-ends : (piece : List ℕ) → length piece ≤ batch_length task → o.steps_after ≤ now + gates_for s piece true →
       o.steps_after ≤ o.steps_before + most_run_steps task (length (front ++ piece))
-  counted piece last few more =
-      omega (arith, begun, counted-more task N lines front piece last s (at_first o) b so_far.behind so_far.whole few steps now o.steps_after so_far.counted more)
+  counted-ends piece few more =
+      omega (arith, begun, counted-last task N lines front piece s (at_first o) b so_far.behind so_far.whole (ends piece few) steps now o.steps_after so_far.counted more)
+
+  counted : (piece : List ℕ) (last : Bool) → length piece ≤ batch_length task → (last ≡ false → length piece ≡ batch_length task) →
+      o.steps_after ≤ now + gates_for s piece last → o.steps_after ≤ o.steps_before + most_run_steps task (length (front ++ piece))
+  counted piece true few all more = counted-ends piece few more
+  counted piece false few all more =
+      omega (arith, begun, counted-fed task N lines front piece s (at_first o) b so_far.behind so_far.whole (all refl) steps now o.steps_after so_far.counted more,
+      gates_go_on.fewer task (length (front ++ piece)))
 
   -- nothing was counted behind whole batches
   uncounted : (piece : List ℕ) → length piece ≤ batch_length task → o.steps_after ≡ now → o.steps_after ≤ o.steps_before + most_run_steps task (length (front ++ piece))
-  uncounted piece few same = counted piece true few (omega arith)
+  uncounted piece few same = counted-ends piece few (omega arith)
 
   -- the piece was taken behind whole batches
   takes : (piece : List ℕ) (status : Status) → Consumes left o.left_after piece → Streams task N lines (front ++ piece) o status →
@@ -155,17 +167,17 @@ module _ (task : Task) (N : ℕ) (lines : List (List ℕ)) (o : Outside) (kept :
       Appends on o.out_after (next_output s piece true) → TakesMessage task N lines o Done
   finishes piece s' long taken at_end few more evaluated took written =
       let behind = behind-more task N lines front piece true s (at_first o) b so_far.behind so_far.whole s' (at_last kept o) evaluated took in
-      let ran = ran_all task N lines (front ++ piece) _ _ s' o kept some (sym (plan-goes_on task N lines front piece s (at_first o) b so_far.behind so_far.whole)) behind in
+      let ran = ran_all task N lines (front ++ piece) _ _ s' o kept some (sym (plan-goes_on task N lines front piece s (at_first o) b so_far.behind so_far.whole (ends piece few))) behind in
       takes piece Done taken
       (record {
         at_end = at_end;
         within = behind.within;
-        written = rw (output-goes_on task N lines front piece s (at_first o) b so_far.behind so_far.whole long)
+        written = rw (output-goes_on task N lines front piece s (at_first o) b so_far.behind so_far.whole long (ends piece few))
             (Appends-trans o.out_before on o.out_after (fed_output task (joined lines) front) (next_output s piece true) so_far.written written);
         ran = ran;
         drawn = all-drawn task N (front ++ piece) ran.part.ran.fresh (at_first o) (at_last ran.kept o) some refl ran.part.ran.drew;
       })
-      (counted piece true few (omega arith))
+      (counted-ends piece few (omega arith))
 
   -- writing failed behind the last piece ..
   pub cuts_off : (piece : List ℕ) (s' : Progress) → IsAtEnd o.left_after → length (joined lines) ≡ key_bytes task → Consumes left o.left_after piece →
@@ -177,11 +189,11 @@ module _ (task : Task) (N : ℕ) (lines : List (List ℕ)) (o : Outside) (kept :
       (record {
         whole = inr at_end;
         within = behind.within;
-        written = rw (output-goes_on task N lines front piece s (at_first o) b so_far.behind so_far.whole long)
+        written = rw (output-goes_on task N lines front piece s (at_first o) b so_far.behind so_far.whole long (ends piece few))
             (part-behind o.out_before on o.out_after (fed_output task (joined lines) front) (next_output s piece true) so_far.written written);
-        ran = ran_all task N lines (front ++ piece) _ _ s' o kept some (sym (plan-goes_on task N lines front piece s (at_first o) b so_far.behind so_far.whole)) behind;
+        ran = ran_all task N lines (front ++ piece) _ _ s' o kept some (sym (plan-goes_on task N lines front piece s (at_first o) b so_far.behind so_far.whole (ends piece few))) behind;
       })
-      (counted piece true few (omega arith))
+      (counted-ends piece few (omega arith))
 
   -- .. or behind a batch of a cipher
   pub cuts_off_between : (piece : List ℕ) (s' : Progress) → IsCipher (method_of task) → length piece ≡ batch_length task → length (joined lines) ≡ key_bytes task →
@@ -190,16 +202,16 @@ module _ (task : Task) (N : ℕ) (lines : List (List ℕ)) (o : Outside) (kept :
   cuts_off_between piece s' cipher all long taken more evaluated took written =
       let behind = behind-more task N lines front piece false s (at_first o) b so_far.behind so_far.whole s' (at_last kept o) evaluated took in
       let are : fed_steps (method_of task) front ++ next_steps s piece false ≡ plan task (front ++ piece)
-      = sym (fed_steps-go_on task N lines front piece s (at_first o) b so_far.behind so_far.whole) ∙ ciphers_go_on.steps task cipher (front ++ piece) in
+      = sym (fed_steps-go_on task N lines front piece s (at_first o) b so_far.behind so_far.whole all) ∙ ciphers_go_on.steps task cipher (front ++ piece) in
       takes piece WriteFault taken
       (record {
         whole = inl (rw (length-append front piece) (batches-more task (length front) (length piece) so_far.whole all));
         within = behind.within;
-        written = rw (← ciphers_go_on.output task cipher (joined lines) (front ++ piece), fed_output-goes_on task N lines front piece s (at_first o) b so_far.behind so_far.whole long)
+        written = rw (← ciphers_go_on.output task cipher (joined lines) (front ++ piece), fed_output-goes_on task N lines front piece s (at_first o) b so_far.behind so_far.whole long all)
             (part-behind o.out_before on o.out_after (fed_output task (joined lines) front) (next_output s piece false) so_far.written written);
         ran = ran_all task N lines (front ++ piece) _ _ s' o kept some are behind;
       })
-      (counted piece false (omega arith) (omega arith))
+      (counted piece false (omega arith) (λ last. all) (omega arith))
 
   -- the steps of whole batches are the first of the run
   module _ (bytes : List ℕ) (rest : List Step) (are : plan task bytes ≡ fed_steps (method_of task) front ++ rest) where
@@ -218,18 +230,27 @@ module _ (task : Task) (N : ℕ) (lines : List (List ℕ)) (o : Outside) (kept :
       ran = record { kept = kept; part = front-part idle; private = runs_are_private N task bytes (length (fed_steps (method_of task) front)) some };
     }
 
-  goes_on : (piece : List ℕ) → plan task (front ++ piece) ≡ fed_steps (method_of task) front ++ next_steps s piece true
-  goes_on piece = plan-goes_on task N lines front piece s (at_first o) b so_far.behind so_far.whole
+  goes_on : (piece : List ℕ) → length piece ≤ batch_length task → plan task (front ++ piece) ≡ fed_steps (method_of task) front ++ next_steps s piece true
+  goes_on piece few = plan-goes_on task N lines front piece s (at_first o) b so_far.behind so_far.whole (ends piece few)
 
   -- reading failed
   pub stops_reading : (piece : List ℕ) → Consumes left o.left_after piece → length piece < batch_length task → on ≡ o.out_after → at_last kept o ≡ b →
       o.steps_after ≡ now → TakesMessage task N lines o ReadFault
   stops_reading piece taken few unwritten idle same =
-      takes piece ReadFault taken (front, piece, refl, few, wrote_batches (front ++ piece) _ (goes_on piece) unwritten idle) (uncounted piece (omega arith) same)
+      takes piece ReadFault taken (front, piece, refl, few, wrote_batches (front ++ piece) _ (goes_on piece (omega arith)) unwritten idle) (uncounted piece (omega arith) same)
 
   -- the tape failed
-  module _ (piece : List ℕ) (last : Bool) (few : length piece ≤ batch_length task) (are : plan task (front ++ piece) ≡ fed_steps (method_of task) front ++ next_steps s piece last)
-      (nothing : piece ≡ [] → next_steps s piece last ≡ []) (stop : Interrupted N s piece last o.wanted now o.steps_after b (at_last kept o)) where
+  module _ (piece : List ℕ) (last : Bool) (few : length piece ≤ batch_length task) (all : last ≡ false → length piece ≡ batch_length task)
+      (are : plan task (front ++ piece) ≡ fed_steps (method_of task) front ++ next_steps s piece last)
+      (stop : Interrupted N s piece last o.wanted now o.steps_after b (at_last kept o)) where
+    -- no bytes have no steps
+    nothing : piece ≡ [] → next_steps s piece last ≡ []
+    nothing none =
+        let same : front ++ piece ≡ front = ap (λ (more : List ℕ). front ++ more) none ∙ append-nil front in
+        let whole = ap length (ciphers_go_on.steps task cipher front ∙ ap (plan task) (sym same) ∙ are) in
+        nil_from_length (next_steps s piece last)
+        (omega (arith, whole, length-append (fed_steps (method_of task) front) (next_steps s piece last)))
+
     fit : bits_of N (take (length (fed_steps (method_of task) front) + stop.count) (plan task (front ++ piece))) + bits_of N stop.next ≤ bits_of N (plan task (front ++ piece))
     fit = steps-left N (fed_steps (method_of task) front) (next_steps s piece last) (plan task (front ++ piece)) are stop.count stop.next stop.later stop.follow
 
@@ -242,17 +263,21 @@ module _ (task : Task) (N : ℕ) (lines : List (List ℕ)) (o : Outside) (kept :
 
     ahead-counted : o.steps_after ≤ o.steps_before + most_run_steps task (length (front ++ piece))
     ahead-counted =
-        counted piece last few (omega (arith, stop.counted, gates_go_on.ahead s.task s.fed stop.count piece last some_came stop.few))
+        counted piece last few all (omega (arith, stop.counted, gates_go_on.ahead s.task s.fed stop.count piece last some_came stop.few))
 
     stopped-part : RanPart N (with_lines task lines) (plan task (front ++ piece)) (length (fed_steps (method_of task) front) + stop.count) (at_first o) (at_last kept o)
     stopped-part =
         rw are
         (runs_join.part N (with_lines task lines) s.held (fed_steps (method_of task) front) (next_steps s piece last) stop.count (at_first o) b (at_last kept o) so_far.behind.ran stop.ran)
 
+    same-ahead : (last : Bool) → methods.ahead (method_of task) (length front) last ≡ due_behind task front
+    same-ahead true = refl
+    same-ahead false = ciphers_go_on.ahead task cipher (length front)
+
     fails_to_draw : on ≡ o.out_after → FailsToDraw task N lines (front ++ piece) o
     fails_to_draw unwritten =
-        let due : length (ahead s) ≡ length (due_behind task front)
-        = ap₂ (λ (t : Task) (n : ℕ). length (methods.ahead (method_of t) n)) so_far.behind.task_is so_far.behind.fed_is in
+        let due : length (ahead s last) ≡ length (due_behind task front)
+        = ap₂ (λ (t : Task) (n : ℕ). length (methods.ahead (method_of t) n last)) so_far.behind.task_is so_far.behind.fed_is ∙ ap length (same-ahead last) in
         record {
           front = front;
           more = piece;
@@ -273,22 +298,30 @@ module _ (task : Task) (N : ℕ) (lines : List (List ℕ)) (o : Outside) (kept :
           within = rw (← run-bits task N (front ++ piece) some) (wanted-within _ (bits_of N stop.next) _ stopped-part.ran.fresh o.wanted (at_first o) (at_last kept o) refl stopped-part.ran.drew stop.wants stop.some fit);
         }
 
+  -- the steps of the piece, the last or not, follow those of the batches
+  next-are : (piece : List ℕ) (last : Bool) → length piece ≤ batch_length task → (last ≡ false → length piece ≡ batch_length task) →
+      plan task (front ++ piece) ≡ fed_steps (method_of task) front ++ next_steps s piece last
+  next-are piece true few all = goes_on piece few
+  next-are piece false few all =
+      sym (ciphers_go_on.steps task cipher (front ++ piece)) ∙ fed_steps-go_on task N lines front piece s (at_first o) b so_far.behind so_far.whole (all refl)
+
   -- the session refused the piece
-  pub refused : (piece : List ℕ) (last : Bool) (stop : Stop) → Consumes left o.left_after piece → length piece ≤ batch_length task → on ≡ o.out_after →
-      plan task (front ++ piece) ≡ fed_steps (method_of task) front ++ next_steps s piece last → (piece ≡ [] → next_steps s piece last ≡ []) →
+  pub refused : (piece : List ℕ) (last : Bool) (stop : Stop) → Consumes left o.left_after piece → length piece ≤ batch_length task →
+      (last ≡ false → length piece ≡ batch_length task) → on ≡ o.out_after →
       Refuses N s piece last o.wanted now o.steps_after b (at_last kept o) stop → TakesMessage task N lines o (status_of stop)
-  refused piece last (stops.TooLong limit) taken few unwritten are nothing stop =
+  refused piece last (stops.TooLong limit) taken few all unwritten stop =
       let is : limit ≡ longest_message task = subst (λ (t : Task). limit ≡ longest_message t) so_far.behind.task_is stop.0 in
       let over : limit < length front + length piece = subst (λ (n : ℕ). limit < n + length piece) so_far.behind.fed_is stop.1 in
-      let all : length front ≡ limit = batches_reach task limit (length front) (length piece) is so_far.whole so_far.behind.within few over in
-      let same : take limit (front ++ piece) ≡ front = ap (λ (n : ℕ). take n (front ++ piece)) (sym all) ∙ take-append_seam front piece in
+      let reached : length front ≡ limit = batches_reach task limit (length front) (length piece) is so_far.whole so_far.behind.within few over in
+      let same : take limit (front ++ piece) ≡ front = ap (λ (n : ℕ). take n (front ++ piece)) (sym reached) ∙ take-append_seam front piece in
       takes piece (TooLong limit) taken
-      (is, rw (length-append front piece) over, rw (length-append front piece) (omega arith), rw same (wrote_batches (front ++ piece) _ (goes_on piece) unwritten stop.2))
+      (is, rw (length-append front piece) over, rw (length-append front piece) (omega arith), rw same (wrote_batches (front ++ piece) _ (goes_on piece few) unwritten stop.2))
       (uncounted piece few stop.3)
-  refused piece last stops.TapeFault taken few unwritten are nothing stop =
-      takes piece TapeFault taken (fails_to_draw piece last few are nothing stop unwritten) (ahead-counted piece last few are nothing stop)
-  refused piece last stops.NoMemory taken few unwritten are nothing stop =
-      takes piece NoMemory taken (front, piece, refl, few, wrote_batches (front ++ piece) _ (goes_on piece) unwritten stop.0) (uncounted piece few stop.1)
+  refused piece last stops.TapeFault taken few all unwritten stop =
+      let are = next-are piece last few all in
+      takes piece TapeFault taken (fails_to_draw piece last few all are stop unwritten) (ahead-counted piece last few all are stop)
+  refused piece last stops.NoMemory taken few all unwritten stop =
+      takes piece NoMemory taken (front, piece, refl, few, wrote_batches (front ++ piece) _ (goes_on piece few) unwritten stop.0) (uncounted piece few stop.1)
 
 -- the same run, of the task and the lines that the session began with
 pub under_task : (task other : Task) (N : ℕ) (lines : List (List ℕ)) (o : Outside) (status : Status) → length lines ≡ N → other ≡ task → TakesMessage other N lines o status →
@@ -297,19 +330,20 @@ under_task task other N lines o status many same takes =
     subst (λ (n : ℕ). TakesMessage task n lines o status) (sym many) (subst (λ (t : Task). TakesMessage t N lines o status) same takes)
 
 -- a run that ends before it reads
-pub stops_at_start : (task : Task) (N : ℕ) (lines : List (List ℕ)) (o : Outside) → 2 ≤ N → length lines ≡ N → values_of (with_lines task lines) ≡ held_at_first task (joined lines) →
+pub stops_at_start : (task : Task) (N : ℕ) (lines : List (List ℕ)) (o : Outside) → 2 ≤ N → IsCipher (method_of task) → length lines ≡ N →
+    values_of (with_lines task lines) ≡ held_at_first task (joined lines) →
     o.left_after ≡ o.left_before → o.out_before ≡ o.out_after → at_last [] o ≡ at_first o → o.steps_after ≤ o.steps_before + start_steps (method_of task) →
     TakesMessage task (length lines) lines o NoMemory
-stops_at_start task N lines o some many key unread unwritten idle begun =
+stops_at_start task N lines o some cipher many key unread unwritten idle begun =
     let first : Progress = record { task = task; held = with_lines task lines; fed = 0; closed = None; ended = false; written = 0; outputs = [] } in
     let so_far = so_far-none task N lines first o.left_before o.out_before o.steps_after (at_first o) refl refl key in
     under_task task task N lines o NoMemory many refl
-    (takes task N lines o [] some [] first o.left_before o.out_before o.steps_after o.steps_after (at_first o) so_far begun [] NoMemory
+    (takes task N lines o [] some cipher [] first o.left_before o.out_before o.steps_after o.steps_after (at_first o) so_far begun [] NoMemory
     (subst (λ (left : Option (List ℕ)). Consumes o.left_before left []) (sym unread) (Consumes-nil o.left_before))
     ([], [], refl, omega arith,
-      wrote_batches task N lines o [] some [] first o.left_before o.out_before o.steps_after o.steps_after (at_first o) so_far begun []
-      _ (goes_on task N lines o [] some [] first o.left_before o.out_before o.steps_after o.steps_after (at_first o) so_far begun []) unwritten idle)
-    (uncounted task N lines o [] some [] first o.left_before o.out_before o.steps_after o.steps_after (at_first o) so_far begun [] (omega arith) refl))
+      wrote_batches task N lines o [] some cipher [] first o.left_before o.out_before o.steps_after o.steps_after (at_first o) so_far begun []
+      _ (goes_on task N lines o [] some cipher [] first o.left_before o.out_before o.steps_after o.steps_after (at_first o) so_far begun [] (omega arith)) unwritten idle)
+    (uncounted task N lines o [] some cipher [] first o.left_before o.out_before o.steps_after o.steps_after (at_first o) so_far begun [] (omega arith) refl))
 
 -- the status says that the tape failed where the refusal does
 pub fault-stop : (stop : Stop) → is_tape_fault (status_of stop) ≡ is_of_tape stop

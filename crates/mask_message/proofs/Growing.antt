@@ -1,5 +1,5 @@
 -- A run that goes on behind whole batches.
-use Rattle.std.proofs.Common.{◌≡◌, ℕ, ◌+◌, ◌-◌, ◌*◌, ◌%◌, ◌<◌, ◌≤◌, Bool, true, false, Option, List, [], ◌++◌, None, length, refl, sym, ap, ap₂, ◌∙◌, subst, arith, length-append}
+use Rattle.std.proofs.Common.{◌≡◌, ℕ, ◌+◌, ◌-◌, ◌*◌, ◌%◌, ◌<◌, ◌≤◌, Bool, true, false, Option, List, [], ◌∷◌, ◌++◌, None, length, refl, sym, ap, ap₂, ◌∙◌, subst, arith, length-append}
 use Rattle.std.proofs.KnownBytes.{Appends-nil, Appends-trans, Consumes-nil, Consumes-trans}
 use Rattle.std.proofs.Math.Nat.{add-mod_left, zero-mod}
 use Rattle.std.specs.Io.KnownBytes.{Appends, Consumes}
@@ -10,7 +10,7 @@ use Rattle.mask_trace.specs.Steps.{Registers, Step}
 use Rattle.mask_trace.specs.Values.{value_after, values_of}
 use Rattle.mask_trace.specs.Drawing.{Stand, Ran}
 use Rattle.mask_trace.proofs.Drawing.{runs_join}
-use Rattle.mask_ciphers.specs.Methods.{AreBatches, fed_steps, next_gates, run_gates}
+use Rattle.mask_ciphers.specs.Methods.{AreBatches, MayEnd, fed_gates, fed_steps, next_gates, run_gates}
 use Rattle.mask_ciphers.specs.Methods as methods
 use Rattle.mask_ciphers.specs.Tasks.{fed_output, held_at_first, method_of, output, plan, with_lines}
 use Rattle.mask_ciphers.specs.Laws.{held_behind}
@@ -62,7 +62,7 @@ pub record SoFar (task : Task) (N : ℕ) (lines : List (List ℕ)) (bytes : List
   pub written : Appends out out' (fed_output task (joined lines) bytes)
   pub whole : AreBatches (method_of task) (length bytes)
   pub unended : s.ended ≡ false
-  pub counted : steps' ≤ steps + run_gates (method_of task) (length bytes)
+  pub counted : steps' ≤ steps + fed_gates (method_of task) (length bytes)
   pub behind : BehindBatches task N lines bytes s a b
 
 -- a session that begins is behind no byte
@@ -92,13 +92,8 @@ module _ (task : Task) (N : ℕ) (lines : List (List ℕ)) (front piece : List �
       ap₂ (λ (t : Task) (n : ℕ). methods.next_output (method_of t) (values_of s.held) n piece last) behind.task_is behind.fed_is
       ∙ ap (λ (held : Registers Bool). methods.next_output (method_of task) held (length front) piece last) behind.values
 
-  -- the gates that are evaluated for the piece are those that it adds
-  pub counted-more : length piece ≤ batch_length task → (steps now now' : ℕ) → now ≤ steps + run_gates (method_of task) (length front) →
-      now' ≤ now + gates_for s piece last → now' ≤ steps + run_gates (method_of task) (length (front ++ piece))
-  counted-more few steps now now' counted more =
-      let gates : gates_for s piece last ≡ next_gates (method_of task) (length front) piece last
-      = ap₂ (λ (t : Task) (n : ℕ). next_gates (method_of t) n piece last) behind.task_is behind.fed_is in
-      rw (length-append front piece) (omega (arith, gates, gates_go_on.piece task (length front) piece last whole few))
+  pub gates-are : gates_for s piece last ≡ next_gates (method_of task) (length front) piece last
+  gates-are = ap₂ (λ (t : Task) (n : ℕ). next_gates (method_of t) n piece last) behind.task_is behind.fed_is
 
   -- the session took the piece
   pub behind-more : (s' : Progress) (c : Stand) → Evaluated N s s' piece last b c → HasTaken s s' piece last →
@@ -120,27 +115,40 @@ module _ (task : Task) (N : ℕ) (lines : List (List ℕ)) (front piece : List �
 
 module _ (task : Task) (N : ℕ) (lines : List (List ℕ)) (front piece : List ℕ) (s : Progress) (a b : Stand)
     (behind : BehindBatches task N lines front s a b) (whole : AreBatches (method_of task) (length front)) where
+  -- the gates that are evaluated for the piece are those that it adds
+  pub counted-fed : length piece ≡ batch_length task → (steps now now' : ℕ) → now ≤ steps + fed_gates (method_of task) (length front) →
+      now' ≤ now + gates_for s piece false → now' ≤ steps + fed_gates (method_of task) (length (front ++ piece))
+  counted-fed all steps now now' counted more =
+      rw (length-append front piece)
+      (omega (arith, gates-are task N lines front piece false s a b behind whole, gates_go_on.fed task (length front) piece whole all))
+
+  pub counted-last : MayEnd (method_of task) (length front) piece → (steps now now' : ℕ) → now ≤ steps + fed_gates (method_of task) (length front) →
+      now' ≤ now + gates_for s piece true → now' ≤ steps + run_gates (method_of task) (length (front ++ piece))
+  counted-last ends steps now now' counted more =
+      rw (length-append front piece)
+      (omega (arith, gates-are task N lines front piece true s a b behind whole, gates_go_on.last task (length front) piece whole ends))
+
   -- whole batches with more behind them, and the whole message
-  pub fed_steps-go_on : fed_steps (method_of task) (front ++ piece) ≡ fed_steps (method_of task) front ++ next_steps s piece false
-  fed_steps-go_on =
-      messages_go_on.steps_fed task front piece whole
+  pub fed_steps-go_on : length piece ≡ batch_length task → fed_steps (method_of task) (front ++ piece) ≡ fed_steps (method_of task) front ++ next_steps s piece false
+  fed_steps-go_on all =
+      messages_go_on.steps_fed task front piece whole all
       ∙ ap (λ (steps : List Step). fed_steps (method_of task) front ++ steps) (sym (next_steps-are task N lines front piece false s a b behind whole))
 
-  pub plan-goes_on : plan task (front ++ piece) ≡ fed_steps (method_of task) front ++ next_steps s piece true
-  plan-goes_on =
-      messages_go_on.steps_last task front piece whole
+  pub plan-goes_on : MayEnd (method_of task) (length front) piece → plan task (front ++ piece) ≡ fed_steps (method_of task) front ++ next_steps s piece true
+  plan-goes_on ends =
+      messages_go_on.steps_last task front piece whole ends
       ∙ ap (λ (steps : List Step). fed_steps (method_of task) front ++ steps) (sym (next_steps-are task N lines front piece true s a b behind whole))
 
-  pub fed_output-goes_on : length (joined lines) ≡ key_bytes task →
+  pub fed_output-goes_on : length (joined lines) ≡ key_bytes task → length piece ≡ batch_length task →
       fed_output task (joined lines) (front ++ piece) ≡ fed_output task (joined lines) front ++ next_output s piece false
-  fed_output-goes_on long =
-      messages_go_on.output_fed task (joined lines) front piece long whole
+  fed_output-goes_on long all =
+      messages_go_on.output_fed task (joined lines) front piece long whole all
       ∙ ap (λ (bytes : List ℕ). fed_output task (joined lines) front ++ bytes) (sym (next_output-is task N lines front piece false s a b behind whole))
 
-  pub output-goes_on : length (joined lines) ≡ key_bytes task →
+  pub output-goes_on : length (joined lines) ≡ key_bytes task → MayEnd (method_of task) (length front) piece →
       output task (joined lines) (front ++ piece) ≡ fed_output task (joined lines) front ++ next_output s piece true
-  output-goes_on long =
-      messages_go_on.output_last task (joined lines) front piece long whole
+  output-goes_on long ends =
+      messages_go_on.output_last task (joined lines) front piece long whole ends
       ∙ ap (λ (bytes : List ℕ). fed_output task (joined lines) front ++ bytes) (sym (next_output-is task N lines front piece true s a b behind whole))
 
 -- nothing was taken yet
@@ -162,12 +170,12 @@ pub so_far-more : (task : Task) (N : ℕ) (lines : List (List ℕ)) (front piece
     SoFar task N lines (front ++ piece) s' left left' out out' steps steps' a c
 so_far-more task N lines front piece s s' left mid left' out on out' steps now steps' a b c so_far taken evaluated took all long written more = record {
   taken = Consumes-trans left mid left' front piece so_far.taken taken;
-  written = rw (fed_output-goes_on task N lines front piece s a b so_far.behind so_far.whole long)
+  written = rw (fed_output-goes_on task N lines front piece s a b so_far.behind so_far.whole long all)
       (Appends-trans out on out' (fed_output task (joined lines) front) (next_output s piece false) so_far.written written);
   whole = rw (length-append front piece) (batches-more task (length front) (length piece) so_far.whole all);
   unended = ap (λ (p : Progress). p.ended) took;
-  counted = counted-more task N lines front piece false s a b so_far.behind so_far.whole (omega arith) steps now steps' so_far.counted (omega arith);
-  behind = rw (fed_steps-go_on task N lines front piece s a b so_far.behind so_far.whole)
+  counted = counted-fed task N lines front piece s a b so_far.behind so_far.whole all steps now steps' so_far.counted (omega arith);
+  behind = rw (fed_steps-go_on task N lines front piece s a b so_far.behind so_far.whole all)
       (behind-more task N lines front piece false s a b so_far.behind so_far.whole s' c evaluated took);
 }
 

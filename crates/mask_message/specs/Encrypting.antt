@@ -1,5 +1,5 @@
 -- What `enc` does with key lines and a message, of which it took these bytes; N is the number of lines, so d is N - 1.
-use Rattle.std.specs.Prelude.{◌≡◌, ◌⊎◌, ℕ, pred, ◌+◌, ◌<◌, ◌≤◌, Bool, List, [], ◌++◌, length, take, All}
+use Rattle.std.specs.Prelude.{◌≡◌, ◌⊎◌, ℕ, pred, ◌+◌, ◌<◌, ◌≤◌, Bool, true, List, [], ◌++◌, length, take, All}
 use Rattle.std.specs.declared.option.Option.{Option}
 use Rattle.std.specs.Io.KnownBytes.{Appends, Consumes, IsAtEnd}
 use Rattle.mask_bits.specs.Reading.{bytes_for}
@@ -71,7 +71,7 @@ BreaksOff task N lines bytes o Rest = (front : List ℕ) × (more : List ℕ) ×
 
 -- what comes ahead of the next piece's own steps, as a refresh of the key that is due, or nothing
 abbrev pub due_behind : Task → List ℕ → List Step
-due_behind task front = ahead (method_of task) (length front)
+due_behind task front = ahead (method_of task) (length front) true
 
 -- The tape failed for the bytes behind whole batches, some but no more than a batch. What is written of the batches was written, and
 -- all their steps were evaluated, and then perhaps those that come ahead of the next ones, and nothing else. What the tape gave and

@@ -103,6 +103,7 @@ fn encrypt_batches<const N: usize, S: Source, E: Entropy, O: Sink, W: Watch, L: 
 ) -> Status
     requires some { 2 ≤ N }
     requires few { N ≤ 8 }
+    requires cipher { IsCipher (method_of session.old.task) }
     requires unclosed { session.old.closed ≡ None }
     requires unended { session.old.ended ≡ false }
     requires piece { length piece.old ≡ batch_length session.old.task }

@@ -71,13 +71,13 @@ pub record Took (N : ℕ) (method : methods.Method) (place : ℕ → ℕ → ℕ
 pub record Stopped (N : ℕ) (method : methods.Method) (fed : ℕ) (piece : List ℕ) (last : Bool) (run : Between) (wanted counted counted' : ℕ) (a b : Stand) : Type 0 where
   pub count : ℕ
   pub ran : RanPart N (have run) (methods.next_steps method fed piece last) count a b
-  pub few : count ≤ length (methods.ahead method fed)
+  pub few : count ≤ length (methods.ahead method fed last)
   pub next : List Step
   pub later : List Step
   pub follow : drop count (methods.next_steps method fed piece last) ≡ next ++ later
   pub wants : wanted ≡ new_bytes b.kept (bits_of N next)
   pub some : 1 ≤ wanted
-  pub counts : counted' ≡ counted + methods.gates_of (take count (methods.ahead method fed))
+  pub counts : counted' ≡ counted + methods.gates_of (take count (methods.ahead method fed last))
 
 -- The run is one of the task, of which no more than the longest message was taken. A session that is neither closed nor at its
 -- end goes on.

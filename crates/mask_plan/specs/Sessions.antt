@@ -41,8 +41,8 @@ abbrev pub next_steps : Progress → List ℕ → Bool → List Step
 next_steps s piece last = methods.next_steps (method_of s.task) s.fed piece last
 
 -- those that come ahead of these bytes' own
-abbrev pub ahead : Progress → List Step
-ahead s = methods.ahead (method_of s.task) s.fed
+abbrev pub ahead : Progress → Bool → List Step
+ahead s last = methods.ahead (method_of s.task) s.fed last
 
 -- what is written of these bytes
 abbrev pub next_output : Progress → List ℕ → Bool → List ℕ
@@ -86,13 +86,13 @@ pub record Evaluated (N : ℕ) (s s' : Progress) (piece : List ℕ) (last : Bool
 pub record Interrupted (N : ℕ) (s : Progress) (piece : List ℕ) (last : Bool) (wanted : ℕ) (steps steps' : ℕ) (a b : Stand) : Type 0 where
   pub count : ℕ
   pub ran : RanPart N s.held (next_steps s piece last) count a b
-  pub few : count ≤ length (ahead s)
+  pub few : count ≤ length (ahead s last)
   pub next : List Step
   pub later : List Step
   pub follow : drop count (next_steps s piece last) ≡ next ++ later
   pub wants : wanted ≡ new_bytes b.kept (bits_of N next)
   pub some : 1 ≤ wanted
-  pub counted : steps' ≡ steps + methods.gates_of (take count (ahead s))
+  pub counted : steps' ≡ steps + methods.gates_of (take count (ahead s last))
 
 -- why a call was refused
 abbrev pub Refuses : ℕ → Progress → List ℕ → Bool → ℕ → ℕ → ℕ → Stand → Stand → Stop → Type 0
