@@ -149,6 +149,10 @@ may_end (InCounterMode m cipher) is n piece few = few
 same_ahead : (method : Method) → IsCipher method → (n : ℕ) → methods.ahead method n false ≡ methods.ahead method n true
 same_ahead (InCounterMode m cipher) is n = refl
 
+pub all_are_ciphers : (task : Task) → IsCipher (method_of task)
+all_are_ciphers (Present size iv) = tt
+all_are_ciphers (Lea size iv) = tt
+
 pub ciphers_go_on : CiphersGoOn
 ciphers_go_on = record {
   ends = λ task is n piece few. may_end (method_of task) is n piece few;

@@ -180,7 +180,7 @@ module _ (task : Task) (N : ℕ) (lines : List (List ℕ)) (o : Outside) (kept :
       (counted-ends piece few (omega arith))
 
   -- writing failed behind the last piece ..
-  pub cuts_off : (piece : List ℕ) (s' : Progress) → IsAtEnd o.left_after → length (joined lines) ≡ key_bytes task → Consumes left o.left_after piece →
+  cuts_off : (piece : List ℕ) (s' : Progress) → IsAtEnd o.left_after → length (joined lines) ≡ key_bytes task → Consumes left o.left_after piece →
       length piece ≤ batch_length task → o.steps_after ≡ now + gates_for s piece true → Evaluated N s s' piece true b (at_last kept o) → HasTaken s s' piece true →
       AppendsProperPrefix on o.out_after (next_output s piece true) → TakesMessage task N lines o WriteFault
   cuts_off piece s' at_end long taken few more evaluated took written =
@@ -195,11 +195,11 @@ module _ (task : Task) (N : ℕ) (lines : List (List ℕ)) (o : Outside) (kept :
       })
       (counted-ends piece few (omega arith))
 
-  -- .. or behind a batch of a cipher
-  pub cuts_off_between : (piece : List ℕ) (s' : Progress) → IsCipher (method_of task) → length piece ≡ batch_length task → length (joined lines) ≡ key_bytes task →
+  -- .. or behind a batch
+  cuts_off_between : (piece : List ℕ) (s' : Progress) → length piece ≡ batch_length task → length (joined lines) ≡ key_bytes task →
       Consumes left o.left_after piece → o.steps_after ≡ now + gates_for s piece false → Evaluated N s s' piece false b (at_last kept o) → HasTaken s s' piece false →
       AppendsProperPrefix on o.out_after (next_output s piece false) → TakesMessage task N lines o WriteFault
-  cuts_off_between piece s' cipher all long taken more evaluated took written =
+  cuts_off_between piece s' all long taken more evaluated took written =
       let behind = behind-more task N lines front piece false s (at_first o) b so_far.behind so_far.whole s' (at_last kept o) evaluated took in
       let are : fed_steps (method_of task) front ++ next_steps s piece false ≡ plan task (front ++ piece)
       = sym (fed_steps-go_on task N lines front piece s (at_first o) b so_far.behind so_far.whole all) ∙ ciphers_go_on.steps task cipher (front ++ piece) in
@@ -212,6 +212,16 @@ module _ (task : Task) (N : ℕ) (lines : List (List ℕ)) (o : Outside) (kept :
         ran = ran_all task N lines (front ++ piece) _ _ s' o kept some are behind;
       })
       (counted piece false (omega arith) (λ last. all) (omega arith))
+
+  -- writing failed, whichever it was
+  pub cuts_off_at : (piece : List ℕ) (last : Bool) (s' : Progress) → (last ≡ true → IsAtEnd o.left_after) → (last ≡ false → length piece ≡ batch_length task) →
+      length piece ≤ batch_length task → length (joined lines) ≡ key_bytes task → Consumes left o.left_after piece →
+      o.steps_after ≡ now + gates_for s piece last → Evaluated N s s' piece last b (at_last kept o) → HasTaken s s' piece last →
+      AppendsProperPrefix on o.out_after (next_output s piece last) → TakesMessage task N lines o WriteFault
+  cuts_off_at piece true s' at_end all few long taken more evaluated took written =
+      cuts_off piece s' (at_end refl) long taken few more evaluated took written
+  cuts_off_at piece false s' at_end all few long taken more evaluated took written =
+      cuts_off_between piece s' (all refl) long taken more evaluated took written
 
   -- the steps of whole batches are the first of the run
   module _ (bytes : List ℕ) (rest : List Step) (are : plan task bytes ≡ fed_steps (method_of task) front ++ rest) where
