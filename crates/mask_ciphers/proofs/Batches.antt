@@ -44,6 +44,10 @@ blocks_are_few b n some =
     let grows : block_count b n ≤ block_count b (n * b) = block_count_grows b n (n * b) some (le-mul_of_pos_right n some) in
     omega (arith, block_count-whole b n some)
 
+-- some bytes are some blocks
+pub some_blocks : (b n : ℕ) → 0 < b → 1 ≤ n → 1 ≤ block_count b n
+some_blocks b n some one = omega (arith, block_of_byte b 0 n some one)
+
 -- EVERY TASK
 
 pub some_batch : (task : Task) → 0 < batch (method_of task)

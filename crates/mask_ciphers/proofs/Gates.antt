@@ -100,10 +100,10 @@ fed_by : (method : Method) (n : ℕ) (piece : List ℕ) → IsSound method → A
 unfolding fed_gates
 fed_by (InCounterMode m cipher) n piece is whole all = piece-more m is.circuits.some n piece whole (omega (arith, all))
 
-last_by : (method : Method) (n : ℕ) (piece : List ℕ) → IsSound method → AreBatches method n → MayEnd method n piece →
+last_by : (method : Method) (n : ℕ) (piece : List ℕ) → IsSound method → AreBatches method n → length piece ≤ batch method → MayEnd method n piece →
     run_gates method (n + length piece) ≡ fed_gates method n + next_gates method n piece true
 unfolding run_gates fed_gates
-last_by (InCounterMode m cipher) n piece is whole few = piece-more m is.circuits.some n piece whole few
+last_by (InCounterMode m cipher) n piece is whole few ends = piece-more m is.circuits.some n piece whole few
 
 fewer_by : (method : Method) (n : ℕ) → fed_gates method n ≤ run_gates method n
 unfolding run_gates fed_gates
@@ -122,7 +122,7 @@ ahead_by (InCounterMode m cipher) n count piece last some few =
 pub gates_go_on : GatesGoOn
 gates_go_on = record {
   fed = λ task n piece whole all. fed_by (method_of task) n piece (tasks_encipher task) whole all;
-  last = λ task n piece whole ends. last_by (method_of task) n piece (tasks_encipher task) whole ends;
+  last = λ task n piece whole few ends. last_by (method_of task) n piece (tasks_encipher task) whole few ends;
   fewer = λ task n. fewer_by (method_of task) n;
   grow = λ task n k le. grow_by (method_of task) n k (tasks_encipher task) le;
   ahead = λ task n count piece last some few. ahead_by (method_of task) n count piece last some few;

@@ -1,15 +1,16 @@
 -- What is written of a message, piece by piece.
-use Rattle.std.proofs.Common.{◌≡◌, ℕ, ◌+◌, ◌-◌, ◌*◌, ◌/◌, ◌%◌, ◌^◌, ◌<◌, ◌≤◌, Bool, true, false, List, [], ◌++◌, length, take, get_or, refl, sym, ap, ap₂, ◌∙◌, subst, arith}
+use Rattle.std.proofs.Common.{◌≡◌, ℕ, suc, ◌+◌, ◌-◌, ◌*◌, ◌/◌, ◌%◌, ◌^◌, ◌<◌, ◌≤◌, Bool, true, false, List, [], ◌∷◌, ◌++◌, length, take, get_or, refl, sym, ap, ap₂, ◌∙◌, subst, arith}
 use Rattle.std.proofs.lemmas.List.{get_or_default}
 use Rattle.std.proofs.lemmas.Nat.{mod_below}
 use Rattle.mask_bits.specs.Reading.{AreBytes}
 use Rattle.mask_tasks.specs.declared.tasks.Task.{Task}
 use Rattle.mask_tasks.specs.declared.tasks.Task.TheVariants.{Present, Lea}
 use Rattle.mask_tasks.specs.Tasks.{key_bytes}
-use Rattle.mask_trace.specs.Steps.{Registers}
+use Rattle.mask_circuit.proofs.Places.{length-each}
+use Rattle.mask_trace.specs.Steps.{Registers, Step}
 use Rattle.mask_trace.specs.Values.{value_after}
 use Rattle.mask_modes.specs.CounterMode.{MakesBlocks, block_count, ciphertext_from, counter, counter_mode}
-use Rattle.mask_modes.specs.Steps.{Cipher, Mode, Enciphers, block_at, blocks, steps_from, steps_of}
+use Rattle.mask_modes.specs.Steps.{Cipher, Mode, Enciphers, ahead_of, block_at, block_step, blocks, steps_from, steps_of}
 use Rattle.mask_modes.proofs.Blocks.{block_at_is_block, xor_is_block}
 use Rattle.mask_modes.proofs.CiphertextBlocks.{ciphertext_in_blocks}
 use Rattle.mask_modes.proofs.Encrypting.{steps_encrypt}
@@ -18,8 +19,8 @@ use Rattle.mask_modes.proofs.Splitting.{messages_split}
 use Rattle.mask_ciphers.specs.Methods.{Method, InCounterMode, AreBatches, IsCipher, MayEnd, batch, fed_steps, key_width, next_output, next_steps}
 use Rattle.mask_ciphers.specs.Methods as methods
 use Rattle.mask_ciphers.specs.Tasks.{fed_output, held_at_first, method_of, output, plan}
-use Rattle.mask_ciphers.specs.Laws.{CiphersGoOn, MessagesGoOn, OutputsAreCiphertexts, PiecesAreWritten, held_behind}
-use Rattle.mask_ciphers.proofs.Batches.{batches_are_blocks}
+use Rattle.mask_ciphers.specs.Laws.{CiphersGoOn, IsSound, MessagesGoOn, OutputsAreCiphertexts, PiecesAreWritten, held_behind}
+use Rattle.mask_ciphers.proofs.Batches.{batches_are_blocks, some_blocks}
 use Rattle.mask_ciphers.proofs.Enciphering.{tasks_encipher}
 use Rattle.mask_ciphers.proofs.KeyBits.{length-key_bits}
 
@@ -83,6 +84,17 @@ module _ (m : Mode) (cipher : Cipher) (is : Enciphers cipher m) where
     front_of : (message : List ℕ) (n : ℕ) → counter_mode m.block m.iv (cipher held.key) (take n message) ≡ take n (counter_mode m.block m.iv (cipher held.key) message)
     front_of message n = ciphertext_fits.front m.block m.iv (cipher held.key) 0 n message is.circuits.some makes
 
+-- the steps of some bytes begin with a refresh of the key, where one is due
+begins_due : (m : Mode) → 0 < m.block → (i : ℕ) (piece : List ℕ) → 1 ≤ length piece →
+    (later : List Step) × (steps_from m i (blocks m.block piece) ≡ ahead_of m i ++ later)
+unfolding steps_from
+begins_due m some i piece one =
+    go (blocks m.block piece) (omega (arith, some_blocks m.block (length piece) some one, length-each (block_at m.block piece) (block_count m.block (length piece))))
+  where
+    go : (parts : List (List ℕ)) → 1 ≤ length parts → (later : List Step) × (steps_from m i parts ≡ ahead_of m i ++ later)
+    go [] none = absurd (omega arith)
+    go (block ∷ parts) some = (block_step m i block ∷ steps_from m (suc i) parts, refl)
+
 -- EVERY TASK
 
 -- the bits of a key under which a run begins
@@ -143,8 +155,12 @@ unfolding fed_output
 same_output (Present size iv) is key front = refl
 same_output (Lea size iv) is key front = refl
 
-may_end : (method : Method) → IsCipher method → (n : ℕ) (piece : List ℕ) → length piece ≤ batch method → MayEnd method n piece
-may_end (InCounterMode m cipher) is n piece few = few
+may_end : (method : Method) → IsCipher method → (n : ℕ) (piece : List ℕ) → MayEnd method n piece
+may_end (InCounterMode m cipher) is n piece = tt
+
+begins : (method : Method) → IsSound method → IsCipher method → (n : ℕ) (piece : List ℕ) (last : Bool) → 1 ≤ length piece →
+    (later : List Step) × (next_steps method n piece last ≡ methods.ahead method n last ++ later)
+begins (InCounterMode m cipher) sound is n piece last some = begins_due m sound.circuits.some (block_count m.block n) piece some
 
 same_ahead : (method : Method) → IsCipher method → (n : ℕ) → methods.ahead method n false ≡ methods.ahead method n true
 same_ahead (InCounterMode m cipher) is n = refl
@@ -155,7 +171,8 @@ all_are_ciphers (Lea size iv) = tt
 
 pub ciphers_go_on : CiphersGoOn
 ciphers_go_on = record {
-  ends = λ task is n piece few. may_end (method_of task) is n piece few;
+  ends = λ task is n piece. may_end (method_of task) is n piece;
+  begins = λ task is n piece last some. begins (method_of task) (tasks_encipher task) is n piece last some;
   ahead = λ task is n. same_ahead (method_of task) is n;
   steps = λ task is front. same_steps (method_of task) is front;
   output = same_output;

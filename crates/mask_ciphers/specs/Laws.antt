@@ -4,7 +4,7 @@ use Rattle.mask_bits.specs.Reading.{AreBytes}
 use Rattle.mask_tasks.specs.declared.tasks.Task.{Task}
 use Rattle.mask_tasks.specs.Tasks.{key_bytes}
 use Rattle.mask_keys.specs.Lines.{AreKeyLines, line_length, joined}
-use Rattle.mask_trace.specs.Steps.{Registers, IsStrongPlan, bits_of}
+use Rattle.mask_trace.specs.Steps.{Registers, Step, IsStrongPlan, bits_of}
 use Rattle.mask_trace.specs.Values.{HasShares, values_of, value_after}
 use Rattle.mask_trace.specs.Laws.{IsRun}
 use Rattle.mask_trace.specs.Privacy.{IsPrivateTrace}
@@ -47,8 +47,11 @@ pub record MessagesGoOn : Type 0 where
       output task key (front ++ piece) ≡ fed_output task key front ++ next_output (method_of task) (held_behind task key front) (length front) piece true
 
 -- A cipher takes and writes whole batches alike, whether more of the message comes or not, and it may end behind any bytes.
+-- The steps of some bytes begin with those that come ahead of them.
 pub record CiphersGoOn : Type 0 where
-  pub ends : (task : Task) → IsCipher (method_of task) → (n : ℕ) (piece : List ℕ) → length piece ≤ batch (method_of task) → MayEnd (method_of task) n piece
+  pub ends : (task : Task) → IsCipher (method_of task) → (n : ℕ) (piece : List ℕ) → MayEnd (method_of task) n piece
+  pub begins : (task : Task) → IsCipher (method_of task) → (n : ℕ) (piece : List ℕ) (last : Bool) → 1 ≤ length piece →
+      (later : List Step) × (next_steps (method_of task) n piece last ≡ ahead (method_of task) n last ++ later)
   pub ahead : (task : Task) → IsCipher (method_of task) → (n : ℕ) → ahead (method_of task) n false ≡ ahead (method_of task) n true
   pub steps : (task : Task) → IsCipher (method_of task) → (front : List ℕ) → fed_steps (method_of task) front ≡ plan task front
   pub output : (task : Task) → IsCipher (method_of task) → (key front : List ℕ) → fed_output task key front ≡ output task key front
@@ -65,7 +68,7 @@ pub record PiecesAreWritten : Type 0 where
 pub record GatesGoOn : Type 0 where
   pub fed : (task : Task) (n : ℕ) (piece : List ℕ) → AreBatches (method_of task) n → length piece ≡ batch (method_of task) →
       fed_gates (method_of task) (n + length piece) ≡ fed_gates (method_of task) n + next_gates (method_of task) n piece false
-  pub last : (task : Task) (n : ℕ) (piece : List ℕ) → AreBatches (method_of task) n → MayEnd (method_of task) n piece →
+  pub last : (task : Task) (n : ℕ) (piece : List ℕ) → AreBatches (method_of task) n → length piece ≤ batch (method_of task) → MayEnd (method_of task) n piece →
       run_gates (method_of task) (n + length piece) ≡ fed_gates (method_of task) n + next_gates (method_of task) n piece true
   pub fewer : (task : Task) (n : ℕ) → fed_gates (method_of task) n ≤ run_gates (method_of task) n
   pub grow : (task : Task) (n k : ℕ) → n ≤ k → run_gates (method_of task) n ≤ run_gates (method_of task) k

@@ -25,7 +25,7 @@ AreBatches method n = n % batch method ≡ 0
 
 -- These may be the last bytes of a message behind n others, which are whole batches.
 abbrev pub MayEnd : Method → ℕ → List ℕ → Type 0
-MayEnd (InCounterMode m cipher) n piece = length piece ≤ 64 * m.block
+MayEnd (InCounterMode m cipher) n piece = Unit {0}
 
 -- What is written are the pieces' own ciphertexts, and nothing but batches decides what they are.
 abbrev pub IsCipher : Method → Type 0

@@ -131,14 +131,14 @@ module _ (task : Task) (N : ℕ) (lines : List (List ℕ)) (o : Outside) (kept :
     (front : List ℕ) (s : Progress) (left on : Option (List ℕ)) (steps now : ℕ) (b : Stand)
     (so_far : SoFar task N lines front s o.left_before left o.out_before on steps now (at_first o) b) (begun : steps ≤ o.steps_before + start_steps (method_of task)) where
   -- the message may end behind any bytes
-  ends : (piece : List ℕ) → length piece ≤ batch_length task → MayEnd (method_of task) (length front) piece
-  ends piece few = ciphers_go_on.ends task cipher (length front) piece few
+  ends : (piece : List ℕ) → MayEnd (method_of task) (length front) piece
+  ends piece = ciphers_go_on.ends task cipher (length front) piece
 
   -- no more was counted than for the piece, the last one or another
   counted-ends : (piece : List ℕ) → length piece ≤ batch_length task → o.steps_after ≤ now + gates_for s piece true →
       o.steps_after ≤ o.steps_before + most_run_steps task (length (front ++ piece))
   counted-ends piece few more =
-      omega (arith, begun, counted-last task N lines front piece s (at_first o) b so_far.behind so_far.whole (ends piece few) steps now o.steps_after so_far.counted more)
+      omega (arith, begun, counted-last task N lines front piece s (at_first o) b so_far.behind so_far.whole few (ends piece) steps now o.steps_after so_far.counted more)
 
   counted : (piece : List ℕ) (last : Bool) → length piece ≤ batch_length task → (last ≡ false → length piece ≡ batch_length task) →
       o.steps_after ≤ now + gates_for s piece last → o.steps_after ≤ o.steps_before + most_run_steps task (length (front ++ piece))
@@ -167,12 +167,12 @@ module _ (task : Task) (N : ℕ) (lines : List (List ℕ)) (o : Outside) (kept :
       Appends on o.out_after (next_output s piece true) → TakesMessage task N lines o Done
   finishes piece s' long taken at_end few more evaluated took written =
       let behind = behind-more task N lines front piece true s (at_first o) b so_far.behind so_far.whole s' (at_last kept o) evaluated took in
-      let ran = ran_all task N lines (front ++ piece) _ _ s' o kept some (sym (plan-goes_on task N lines front piece s (at_first o) b so_far.behind so_far.whole (ends piece few))) behind in
+      let ran = ran_all task N lines (front ++ piece) _ _ s' o kept some (sym (plan-goes_on task N lines front piece s (at_first o) b so_far.behind so_far.whole (ends piece))) behind in
       takes piece Done taken
       (record {
         at_end = at_end;
         within = behind.within;
-        written = rw (output-goes_on task N lines front piece s (at_first o) b so_far.behind so_far.whole long (ends piece few))
+        written = rw (output-goes_on task N lines front piece s (at_first o) b so_far.behind so_far.whole long (ends piece))
             (Appends-trans o.out_before on o.out_after (fed_output task (joined lines) front) (next_output s piece true) so_far.written written);
         ran = ran;
         drawn = all-drawn task N (front ++ piece) ran.part.ran.fresh (at_first o) (at_last ran.kept o) some refl ran.part.ran.drew;
@@ -189,9 +189,9 @@ module _ (task : Task) (N : ℕ) (lines : List (List ℕ)) (o : Outside) (kept :
       (record {
         whole = inr at_end;
         within = behind.within;
-        written = rw (output-goes_on task N lines front piece s (at_first o) b so_far.behind so_far.whole long (ends piece few))
+        written = rw (output-goes_on task N lines front piece s (at_first o) b so_far.behind so_far.whole long (ends piece))
             (part-behind o.out_before on o.out_after (fed_output task (joined lines) front) (next_output s piece true) so_far.written written);
-        ran = ran_all task N lines (front ++ piece) _ _ s' o kept some (sym (plan-goes_on task N lines front piece s (at_first o) b so_far.behind so_far.whole (ends piece few))) behind;
+        ran = ran_all task N lines (front ++ piece) _ _ s' o kept some (sym (plan-goes_on task N lines front piece s (at_first o) b so_far.behind so_far.whole (ends piece))) behind;
       })
       (counted-ends piece few (omega arith))
 
@@ -240,14 +240,14 @@ module _ (task : Task) (N : ℕ) (lines : List (List ℕ)) (o : Outside) (kept :
       ran = record { kept = kept; part = front-part idle; private = runs_are_private N task bytes (length (fed_steps (method_of task) front)) some };
     }
 
-  goes_on : (piece : List ℕ) → length piece ≤ batch_length task → plan task (front ++ piece) ≡ fed_steps (method_of task) front ++ next_steps s piece true
-  goes_on piece few = plan-goes_on task N lines front piece s (at_first o) b so_far.behind so_far.whole (ends piece few)
+  goes_on : (piece : List ℕ) → plan task (front ++ piece) ≡ fed_steps (method_of task) front ++ next_steps s piece true
+  goes_on piece = plan-goes_on task N lines front piece s (at_first o) b so_far.behind so_far.whole (ends piece)
 
   -- reading failed
   pub stops_reading : (piece : List ℕ) → Consumes left o.left_after piece → length piece < batch_length task → on ≡ o.out_after → at_last kept o ≡ b →
       o.steps_after ≡ now → TakesMessage task N lines o ReadFault
   stops_reading piece taken few unwritten idle same =
-      takes piece ReadFault taken (front, piece, refl, few, wrote_batches (front ++ piece) _ (goes_on piece (omega arith)) unwritten idle) (uncounted piece (omega arith) same)
+      takes piece ReadFault taken (front, piece, refl, few, wrote_batches (front ++ piece) _ (goes_on piece) unwritten idle) (uncounted piece (omega arith) same)
 
   -- the tape failed
   module _ (piece : List ℕ) (last : Bool) (few : length piece ≤ batch_length task) (all : last ≡ false → length piece ≡ batch_length task)
@@ -309,10 +309,10 @@ module _ (task : Task) (N : ℕ) (lines : List (List ℕ)) (o : Outside) (kept :
         }
 
   -- the steps of the piece, the last or not, follow those of the batches
-  next-are : (piece : List ℕ) (last : Bool) → length piece ≤ batch_length task → (last ≡ false → length piece ≡ batch_length task) →
+  next-are : (piece : List ℕ) (last : Bool) → (last ≡ false → length piece ≡ batch_length task) →
       plan task (front ++ piece) ≡ fed_steps (method_of task) front ++ next_steps s piece last
-  next-are piece true few all = goes_on piece few
-  next-are piece false few all =
+  next-are piece true all = goes_on piece
+  next-are piece false all =
       sym (ciphers_go_on.steps task cipher (front ++ piece)) ∙ fed_steps-go_on task N lines front piece s (at_first o) b so_far.behind so_far.whole (all refl)
 
   -- the session refused the piece
@@ -325,13 +325,13 @@ module _ (task : Task) (N : ℕ) (lines : List (List ℕ)) (o : Outside) (kept :
       let reached : length front ≡ limit = batches_reach task limit (length front) (length piece) is so_far.whole so_far.behind.within few over in
       let same : take limit (front ++ piece) ≡ front = ap (λ (n : ℕ). take n (front ++ piece)) (sym reached) ∙ take-append_seam front piece in
       takes piece (TooLong limit) taken
-      (is, rw (length-append front piece) over, rw (length-append front piece) (omega arith), rw same (wrote_batches (front ++ piece) _ (goes_on piece few) unwritten stop.2))
+      (is, rw (length-append front piece) over, rw (length-append front piece) (omega arith), rw same (wrote_batches (front ++ piece) _ (goes_on piece) unwritten stop.2))
       (uncounted piece few stop.3)
   refused piece last stops.TapeFault taken few all unwritten stop =
-      let are = next-are piece last few all in
+      let are = next-are piece last all in
       takes piece TapeFault taken (fails_to_draw piece last few all are stop unwritten) (ahead-counted piece last few all are stop)
   refused piece last stops.NoMemory taken few all unwritten stop =
-      takes piece NoMemory taken (front, piece, refl, few, wrote_batches (front ++ piece) _ (goes_on piece few) unwritten stop.0) (uncounted piece few stop.1)
+      takes piece NoMemory taken (front, piece, refl, few, wrote_batches (front ++ piece) _ (goes_on piece) unwritten stop.0) (uncounted piece few stop.1)
 
 -- the same run, of the task and the lines that the session began with
 pub under_task : (task other : Task) (N : ℕ) (lines : List (List ℕ)) (o : Outside) (status : Status) → length lines ≡ N → other ≡ task → TakesMessage other N lines o status →
@@ -352,7 +352,7 @@ stops_at_start task N lines o some cipher many key unread unwritten idle begun =
     (subst (λ (left : Option (List ℕ)). Consumes o.left_before left []) (sym unread) (Consumes-nil o.left_before))
     ([], [], refl, omega arith,
       wrote_batches task N lines o [] some cipher [] first o.left_before o.out_before o.steps_after o.steps_after (at_first o) so_far begun []
-      _ (goes_on task N lines o [] some cipher [] first o.left_before o.out_before o.steps_after o.steps_after (at_first o) so_far begun [] (omega arith)) unwritten idle)
+      _ (goes_on task N lines o [] some cipher [] first o.left_before o.out_before o.steps_after o.steps_after (at_first o) so_far begun []) unwritten idle)
     (uncounted task N lines o [] some cipher [] first o.left_before o.out_before o.steps_after o.steps_after (at_first o) so_far begun [] (omega arith) refl))
 
 -- the status says that the tape failed where the refusal does

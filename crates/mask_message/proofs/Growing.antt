@@ -122,11 +122,11 @@ module _ (task : Task) (N : ℕ) (lines : List (List ℕ)) (front piece : List �
       rw (length-append front piece)
       (omega (arith, gates-are task N lines front piece false s a b behind whole, gates_go_on.fed task (length front) piece whole all))
 
-  pub counted-last : MayEnd (method_of task) (length front) piece → (steps now now' : ℕ) → now ≤ steps + fed_gates (method_of task) (length front) →
+  pub counted-last : length piece ≤ batch_length task → MayEnd (method_of task) (length front) piece → (steps now now' : ℕ) → now ≤ steps + fed_gates (method_of task) (length front) →
       now' ≤ now + gates_for s piece true → now' ≤ steps + run_gates (method_of task) (length (front ++ piece))
-  counted-last ends steps now now' counted more =
+  counted-last few ends steps now now' counted more =
       rw (length-append front piece)
-      (omega (arith, gates-are task N lines front piece true s a b behind whole, gates_go_on.last task (length front) piece whole ends))
+      (omega (arith, gates-are task N lines front piece true s a b behind whole, gates_go_on.last task (length front) piece whole few ends))
 
   -- whole batches with more behind them, and the whole message
   pub fed_steps-go_on : length piece ≡ batch_length task → fed_steps (method_of task) (front ++ piece) ≡ fed_steps (method_of task) front ++ next_steps s piece false

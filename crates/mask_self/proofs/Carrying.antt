@@ -1,67 +1,58 @@
 -- What ran on a beginning of a message ran on the message.
-use Rattle.std.proofs.Common.{◌≡◌, ℕ, zero, suc, ◌+◌, ◌*◌, ◌<◌, ◌≤◌, List, [], ◌∷◌, ◌++◌, length, take, refl, ap, sym, ◌∙◌, subst, arith, length-append}
+use Rattle.std.proofs.Common.{◌≡◌, ℕ, zero, suc, ◌+◌, ◌*◌, ◌<◌, ◌≤◌, Bool, true, List, [], ◌∷◌, ◌++◌, length, take, refl, ap, sym, ◌∙◌, subst, arith, length-append}
 use Rattle.std.proofs.lemmas.List.{append_assoc, length-take, length-take-le, take-append-le}
 use Rattle.mask_bits.specs.Reading.{low}
 use Rattle.mask_tasks.specs.declared.tasks.Task.{Task}
 use Rattle.mask_eval.specs.Watching.{told_more}
-use Rattle.mask_circuit.proofs.Places.{length-each}
 use Rattle.mask_trace.specs.Steps.{Registers, Step, bits_of}
 use Rattle.mask_trace.specs.Traces.{BitShares, after, trace}
 use Rattle.mask_trace.specs.Drawing.{Drew, Ran}
 use Rattle.mask_trace.proofs.Drawing.{runs_join}
-use Rattle.mask_modes.specs.CounterMode.{block_count}
-use Rattle.mask_modes.specs.Steps.{Mode, ahead_of, block_at, block_step, blocks, steps_from}
-use Rattle.mask_modes.proofs.BlockCounts.{le-block_count}
-use Rattle.mask_ciphers.specs.Tasks.{mode_of, plan, with_lines}
+use Rattle.mask_ciphers.specs.Methods.{AreBatches, IsCipher, fed_steps, next_steps}
+use Rattle.mask_ciphers.specs.Tasks.{method_of, plan, with_lines}
 use Rattle.mask_ciphers.proofs.Breaking.{runs_are_private}
+use Rattle.mask_ciphers.proofs.Writing.{ciphers_go_on, messages_go_on}
 use Rattle.mask_message.specs.Outside.{Outside}
 use Rattle.mask_message.specs.Encrypting.{RanSteps, at_first, at_last, due_behind}
-use Rattle.mask_message.proofs.Growing.{AreBatches, block_is_some, plan-more}
 
 -- THE SAME STEPS
 
 -- those of whole batches are the first of every message that begins with them
-pub same-whole : (task : Task) (front rest : List ℕ) (count : ℕ) → AreBatches task (length front) → count ≤ length (plan task front) →
-    take count (plan task front) ≡ take count (plan task (front ++ rest))
-same-whole task front rest count whole few =
-    sym (ap (take count) (plan-more task front rest whole) ∙ take-append-le count (plan task front) _ few)
+module _ (task : Task) (cipher : IsCipher (method_of task)) (front : List ℕ) (whole : AreBatches (method_of task) (length front)) where
+  plan-more : (rest : List ℕ) → plan task (front ++ rest) ≡ fed_steps (method_of task) front ++ next_steps (method_of task) (length front) rest true
+  plan-more rest = messages_go_on.steps_last task front rest whole (ciphers_go_on.ends task cipher (length front) rest)
 
-begins-due : (m : Mode) (i : ℕ) (part : List (List ℕ)) → 1 ≤ length part → (later : List Step) × (steps_from m i part ≡ ahead_of m i ++ later)
-unfolding steps_from
-begins-due m i [] some = absurd (omega arith)
-begins-due m i (block ∷ part) some = (block_step m i block ∷ steps_from m (suc i) part, refl)
+  pub same-whole : (rest : List ℕ) (count : ℕ) → count ≤ length (fed_steps (method_of task) front) →
+      take count (fed_steps (method_of task) front) ≡ take count (plan task (front ++ rest))
+  same-whole rest count few = sym (ap (take count) (plan-more rest) ∙ take-append-le count (fed_steps (method_of task) front) _ few)
 
-some-blocks : (b n : ℕ) → 0 < b → 1 ≤ n → 1 ≤ block_count b n
-some-blocks b n pos some = go (block_count b n) (le-block_count b n pos)
-  where
-    go : (k : ℕ) → n ≤ k * b → 1 ≤ k
-    go zero le = absurd (omega arith)
-    go (suc k) le = omega arith
+  pub same-plan : (rest : List ℕ) (count : ℕ) → count ≤ length (plan task front) → take count (plan task front) ≡ take count (plan task (front ++ rest))
+  same-plan rest count few =
+      let are = ciphers_go_on.steps task cipher front in
+      ap (take count) (sym are) ∙ same-whole rest count (omega (arith, ap length are))
 
--- behind whole batches the steps of some bytes begin with the refresh that is due
-due-first : (task : Task) (front more : List ℕ) → AreBatches task (length front) → 1 ≤ length more →
-    (later : List Step) × (plan task (front ++ more) ≡ (plan task front ++ due_behind task front) ++ later)
-due-first task front more whole some =
-    let m = mode_of task in
-    let n = block_count m.block (length front) in
-    let count = length-each (block_at m.block more) (block_count m.block (length more)) in
-    let due = begins-due m n (blocks m.block more) (omega (arith, some-blocks m.block (length more) (block_is_some task) some)) in (
-      due.0,
-      plan-more task front more whole ∙ ap (λ (steps : List Step). plan task front ++ steps) due.1 ∙ sym (append_assoc (plan task front) (ahead_of m n) due.0),
-    )
+  -- behind whole batches the steps of some bytes begin with those that are due
+  due-first : (more : List ℕ) → 1 ≤ length more →
+      (later : List Step) × (plan task (front ++ more) ≡ (fed_steps (method_of task) front ++ due_behind task front) ++ later)
+  due-first more some =
+      let steps = fed_steps (method_of task) front in
+      let due = ciphers_go_on.begins task cipher (length front) more true some in (
+        due.0,
+        plan-more more ∙ ap (λ (next : List Step). steps ++ next) due.1 ∙ sym (append_assoc steps (due_behind task front) due.0),
+      )
 
--- so these first steps are the same, whatever the bytes
-pub same-due : (task : Task) (front more rest : List ℕ) (count : ℕ) → AreBatches task (length front) → 1 ≤ length more →
-    count ≤ length (plan task front) + length (due_behind task front) → take count (plan task (front ++ more)) ≡ take count (plan task (front ++ more ++ rest))
-same-due task front more rest count whole some few =
-    let common = plan task front ++ due_behind task front in
-    let size : count ≤ length common = omega (arith, length-append (plan task front) (due_behind task front)) in
-    let first : (later : List Step) → take count (common ++ later) ≡ take count common = λ later. take-append-le count common later size in
-    let here = due-first task front more whole some in
-    let there = due-first task front (more ++ rest) whole (omega (arith, length-append more rest)) in
-    ap (take count) here.1
-    ∙ first here.0
-    ∙ sym (ap (take count) (ap (plan task) (append_assoc front more rest) ∙ there.1) ∙ first there.0)
+  -- so these first steps are the same, whatever the bytes
+  pub same-due : (more rest : List ℕ) (count : ℕ) → 1 ≤ length more → count ≤ length (fed_steps (method_of task) front) + length (due_behind task front) →
+      take count (plan task (front ++ more)) ≡ take count (plan task (front ++ more ++ rest))
+  same-due more rest count some few =
+      let common = fed_steps (method_of task) front ++ due_behind task front in
+      let size : count ≤ length common = omega (arith, length-append (fed_steps (method_of task) front) (due_behind task front)) in
+      let first : (later : List Step) → take count (common ++ later) ≡ take count common = λ later. take-append-le count common later size in
+      let here = due-first more some in
+      let there = due-first (more ++ rest) (omega (arith, length-append more rest)) in
+      ap (take count) here.1
+      ∙ first here.0
+      ∙ sym (ap (take count) (ap (plan task) (append_assoc front more rest) ∙ there.1) ∙ first there.0)
 
 -- THE SAME RUN
 

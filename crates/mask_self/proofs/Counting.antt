@@ -6,8 +6,9 @@ use Rattle.mask_circuit.proofs.Places.{length-each}
 use Rattle.mask_tasks.specs.declared.tasks.Task.{Task}
 use Rattle.mask_tasks.specs.declared.tasks.Task.TheVariants.{Present, Lea}
 use Rattle.mask_modes.specs.CounterMode.{block_count}
-use Rattle.mask_modes.specs.Steps.{Mode, ahead_of, block_at, block_step, blocks, refresh_step, steps_from}
-use Rattle.mask_ciphers.specs.Tasks.{mode_of, plan}
+use Rattle.mask_modes.specs.Steps.{Mode, ahead_of, block_at, block_step, blocks, refresh_step, steps_from, steps_of}
+use Rattle.mask_ciphers.specs.Methods.{IsCipher}
+use Rattle.mask_ciphers.specs.Tasks.{method_of}
 use Rattle.mask_ciphers.specs.Totals.{counter_bits, gate_bits, total}
 
 -- STEPS
@@ -36,10 +37,9 @@ length-steps_from m i (block ∷ part) =
     let all = ap (λ (n : ℕ). length part + ((n + 63) / 64 - 1)) place in
     omega (arith, rest, all, refreshes-more m i, length-append (ahead_of m i) (block_step m i block ∷ steps_from m (suc i) part))
 
-pub length-plan : (task : Task) (message : List ℕ) →
-    let n = block_count (mode_of task).block (length message) in length (plan task message) ≡ n + ((n + 63) / 64 - 1)
-length-plan task message =
-    let m = mode_of task in
+pub length-steps_of : (m : Mode) (message : List ℕ) →
+    let n = block_count m.block (length message) in length (steps_of m message) ≡ n + ((n + 63) / 64 - 1)
+length-steps_of m message =
     let n = block_count m.block (length message) in
     let count : length (blocks m.block message) ≡ n = length-each (block_at m.block message) n in
     let steps = length-steps_from m 0 (blocks m.block message) in
@@ -53,8 +53,8 @@ counter_bits-grow b gates refreshes d m n le =
     let more : (m + 63) / 64 - 1 ≤ (n + 63) / 64 - 1 = omega arith in
     omega (arith, mul-le-mul_right (d * b + gates * gate_bits d) le, mul-le-mul_right (refreshes * gate_bits d) more)
 
--- a longer message takes no fewer
-pub totals_grow : (task : Task) (d m n : ℕ) → m ≤ n → total task d m ≤ total task d n
+-- a longer message that is encrypted takes no fewer
+pub totals_grow : (task : Task) → IsCipher (method_of task) → (d m n : ℕ) → m ≤ n → total task d m ≤ total task d n
 unfolding total
-totals_grow (Present size iv) d m n le = counter_bits-grow 64 _ _ d ((m + 7) / 8) ((n + 7) / 8) (omega arith)
-totals_grow (Lea size iv) d m n le = counter_bits-grow 128 _ _ d ((m + 15) / 16) ((n + 15) / 16) (omega arith)
+totals_grow (Present size iv) is d m n le = counter_bits-grow 64 _ _ d ((m + 7) / 8) ((n + 7) / 8) (omega arith)
+totals_grow (Lea size iv) is d m n le = counter_bits-grow 128 _ _ d ((m + 15) / 16) ((n + 15) / 16) (omega arith)

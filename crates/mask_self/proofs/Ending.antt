@@ -9,7 +9,9 @@ use Rattle.mask_circuit.specs.Sharing.{unmasked}
 use Rattle.mask_circuit.proofs.Places.{length-each}
 use Rattle.mask_tasks.specs.Tasks.{key_bytes, longest_message}
 use Rattle.mask_keys.specs.Lines.{joined, line_length}
-use Rattle.mask_ciphers.specs.Tasks.{output, plan}
+use Rattle.mask_ciphers.specs.Methods.{AreBatches, IsCipher, fed_steps}
+use Rattle.mask_ciphers.specs.Tasks.{method_of, output, plan}
+use Rattle.mask_ciphers.proofs.Gates.{gates_go_on}
 use Rattle.mask_ciphers.proofs.Writing.{outputs_are_ciphertexts}
 use Rattle.mask_status.specs.declared.status.Status.{Status}
 use Rattle.mask_status.specs.declared.status.Status.TheVariants.{Done, Refused, BadWords, BadText, BadKeys, KeyFault, TooLong, ReadFault, TapeFault, WriteFault, BadProbe, NoMemory}
@@ -19,17 +21,15 @@ use Rattle.mask_message.specs.Outside.{Outside}
 use Rattle.mask_message.specs.Encrypting.{Encrypts, RanSteps, Streams, WroteBatches}
 use Rattle.mask_message.specs.Encrypting as run
 use Rattle.mask_message.specs.Counting.{most_run_steps}
-use Rattle.mask_message.proofs.Counting.{run_gates-grow}
-use Rattle.mask_message.proofs.Growing.{AreBatches}
 use Rattle.mask_self.specs.Selves.{RunsWhole, FailsToDraw, BreaksOff}
-use Rattle.mask_self.proofs.Carrying.{same-whole, same-due, carried}
+use Rattle.mask_self.proofs.Carrying.{same-whole, same-plan, same-due, carried}
 use Rattle.mask_self.proofs.Counting.{totals_grow}
 
 -- of a source that tells its bytes the taken ones are all, where it is at its end
 all-taken : (bytes rest message : List ℕ) → message ≡ bytes ++ rest → rest ≡ [] → bytes ≡ message
 all-taken bytes rest message came none = sym (came ∙ ap (λ (r : List ℕ). bytes ++ r) none ∙ append-nil bytes)
 
-module _ (task : Task) (N : ℕ) (lines : List (List ℕ)) (message bytes rest : List ℕ) (o : Outside) (some : 2 ≤ N) (came : message ≡ bytes ++ rest) (left : o.left_after ≡ Some rest) where
+module _ (task : Task) (cipher : IsCipher (method_of task)) (N : ℕ) (lines : List (List ℕ)) (message bytes rest : List ℕ) (o : Outside) (some : 2 ≤ N) (came : message ≡ bytes ++ rest) (left : o.left_after ≡ Some rest) where
   none-left : IsAtEnd o.left_after → rest ≡ []
   none-left at_end = subst IsAtEnd left at_end
 
@@ -53,10 +53,10 @@ module _ (task : Task) (N : ℕ) (lines : List (List ℕ)) (message bytes rest :
   -- A RUN THAT STOPS
 
   -- what ran on whole batches, or on all bytes, ran on the message
-  ran-whole : AreBatches task (length bytes) ⊎ IsAtEnd o.left_after → run.RanAll task N lines bytes o → BreaksOff task N lines message o
+  ran-whole : AreBatches (method_of task) (length bytes) ⊎ IsAtEnd o.left_after → run.RanAll task N lines bytes o → BreaksOff task N lines message o
   ran-whole (inl whole) ran =
       let count = length (plan task bytes) in
-      (count, carried task N lines bytes message count o some ran (same-whole task bytes rest count whole (omega arith) ∙ ap (λ (bs : List ℕ). take count (plan task bs)) (sym came)))
+      (count, carried task N lines bytes message count o some ran (same-plan task cipher bytes whole rest count (omega arith) ∙ ap (λ (bs : List ℕ). take count (plan task bs)) (sym came)))
   ran-whole (inr end) ran =
       let count = length (plan task bytes) in
       (count, carried task N lines bytes message count o some ran (ap (λ (bs : List ℕ). take count (plan task bs)) (all-taken bytes rest message came (none-left end))))
@@ -67,22 +67,25 @@ module _ (task : Task) (N : ℕ) (lines : List (List ℕ)) (message bytes rest :
       let here : bytes ++ rest ≡ e.front ++ e.more ++ rest = ap (λ (bs : List ℕ). bs ++ rest) e.came in
       let same : take e.count (plan task bytes) ≡ take e.count (plan task message)
       = ap (λ (bs : List ℕ). take e.count (plan task bs)) e.came
-      ∙ same-due task e.front e.more rest e.count e.whole e.some_came e.few
+      ∙ same-due task cipher e.front e.whole e.more rest e.count e.some_came e.few
       ∙ ap (λ (bs : List ℕ). take e.count (plan task bs)) (sym (came ∙ here)) in
       let longer : length bytes ≤ length message = omega (arith, ap length came, length-append bytes rest) in
       record {
         count = e.count;
         ran = carried task N lines bytes message e.count o some e.ran same;
         wanted = e.wanted;
-        within = omega (arith, e.within, totals_grow task (pred N) (length bytes) (length message) longer);
+        within = omega (arith, e.within, totals_grow task cipher (pred N) (length bytes) (length message) longer);
       }
 
   -- nothing ran behind the whole batches that were written
-  wrote : (front more : List ℕ) → bytes ≡ front ++ more → WroteBatches task N lines front o → BreaksOff task N lines message o
+  wrote : (front more : List ℕ) → bytes ≡ front ++ more → WroteBatches task N lines bytes front o → BreaksOff task N lines message o
   wrote front more split e =
-      let count = length (plan task front) in
-      let here : message ≡ front ++ (more ++ rest) = came ∙ ap (λ (bs : List ℕ). bs ++ rest) split ∙ append_assoc front more rest in
-      (count, carried task N lines front message count o some e.ran (same-whole task front (more ++ rest) count e.whole (omega arith) ∙ ap (λ (bs : List ℕ). take count (plan task bs)) (sym here)))
+      let count = length (fed_steps (method_of task) front) in
+      let first : List ℕ → Type 0 = λ bs. take count (fed_steps (method_of task) front) ≡ take count (plan task bs) in
+      let here : first bytes = subst first (sym split) (same-whole task cipher front e.whole more count (omega arith)) in
+      let there : first message
+      = subst first (sym (came ∙ ap (λ (bs : List ℕ). bs ++ rest) split ∙ append_assoc front more rest)) (same-whole task cipher front e.whole (more ++ rest) count (omega arith)) in
+      (count, carried task N lines bytes message count o some e.ran (sym here ∙ there))
 
   -- every other status but Done is want of memory: the message isn't too long, and its source never fails
   pub breaks_off : length message ≤ longest_message task → (status : Status) → (status ≡ Done → ⊥) → (status ≡ TapeFault → ⊥) → is_read_fault status ≡ false →
@@ -135,7 +138,7 @@ never_fails status counts = go (is_read_fault status) counts
 pub within_whole : (task : Task) (message bytes rest : List ℕ) (count before now : ℕ) → length message ≡ count → message ≡ bytes ++ rest →
     now ≤ before + most_run_steps task (length bytes) → now ≤ before + most_run_steps task count
 within_whole task message bytes rest count before now size came few =
-    omega (arith, run_gates-grow task (length bytes) count (omega (arith, ap length came, length-append bytes rest)))
+    omega (arith, gates_go_on.grow task (length bytes) count (omega (arith, ap length came, length-append bytes rest)))
 
 -- LENGTHS
 

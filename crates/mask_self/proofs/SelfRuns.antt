@@ -5,7 +5,7 @@ use Rattle.mask_tasks.specs.declared.sizes.LeaSize.TheVariants.{K128}
 use Rattle.mask_tasks.specs.declared.tasks.Task.{Task}
 use Rattle.mask_tasks.specs.declared.tasks.Task.TheVariants.{Lea}
 use Rattle.mask_keys.specs.Lines.{joined, lines_of}
-use Rattle.mask_ciphers.specs.Tasks.{output, plan}
+use Rattle.mask_ciphers.specs.Tasks.{lea_mode, output, plan}
 use Rattle.mask_ciphers.specs.Totals.{counter_bits, total}
 use Rattle.mask_status.specs.declared.status.Status.{Status}
 use Rattle.mask_status.specs.declared.status.Status.TheVariants.{Done, Refused, BadWords, BadText, BadKeys, KeyFault, TooLong, ReadFault, TapeFault, WriteFault, BadProbe, NoMemory}
@@ -14,9 +14,9 @@ use Rattle.mask_message.specs.Outside.{Outside}
 use Rattle.mask_message.specs.Counting.{most_run_steps}
 use Rattle.mask_self.specs.Generator.{number_at, bytes_from}
 use Rattle.mask_self.specs.Reports.{line, sum_of_blocks}
-use Rattle.mask_self.specs.Selves.{own_lines, own_message, own_task, report, RunsWhole, Stops, RunsItself}
+use Rattle.mask_self.specs.Selves.{own_iv, own_lines, own_message, own_task, report, RunsWhole, Stops, RunsItself}
 use Rattle.mask_self.proofs.Generating.{number_at-behind, bytes_from-behind, length-bytes_from}
-use Rattle.mask_self.proofs.Counting.{length-plan}
+use Rattle.mask_self.proofs.Counting.{length-steps_of}
 
 -- WHAT IS MADE
 
@@ -69,7 +69,7 @@ module _ (seed order first second iv count : ℕ) (lines : List (List ℕ)) (mad
 own_calls : (seed N count : ℕ) → (count + 15) / 16 + (((count + 15) / 16 + 63) / 64 - 1) ≡ length (plan (own_task seed N) (own_message seed N count))
 own_calls seed N count =
     let long = length-bytes_from seed (16 * N + 16) count in
-    sym (length-plan (own_task seed N) (own_message seed N count) ∙ ap (λ (n : ℕ). (n + 15) / 16 + (((n + 15) / 16 + 63) / 64 - 1)) long)
+    sym (length-steps_of (lea_mode K128 (own_iv seed N)) (own_message seed N count) ∙ ap (λ (n : ℕ). (n + 15) / 16 + (((n + 15) / 16 + 63) / 64 - 1)) long)
 
 own_bits : (seed order count : ℕ) → counter_bits 128 10_544 128 order ((count + 15) / 16) ≡ total (own_task seed (suc order)) order count
 unfolding total

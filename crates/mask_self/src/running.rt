@@ -5,7 +5,8 @@ ghost use Rattle.std.specs.declared.option.Option.{Option};
 ghost use Rattle.mask_io.specs.Outside.{faults_after};
 ghost use Rattle.mask_tasks.specs.Tasks.{key_bytes, longest_message};
 ghost use Rattle.mask_keys.specs.Lines.{AreKeyLines, joined, line_length};
-ghost use Rattle.mask_ciphers.specs.Tasks.{output};
+ghost use Rattle.mask_ciphers.specs.Methods.{IsCipher};
+ghost use Rattle.mask_ciphers.specs.Tasks.{method_of, output};
 ghost use Rattle.mask_status.specs.Ends.{ComesBeforeWriting, is_tape_fault, is_write_fault};
 ghost use Rattle.mask_message.specs.Outside.{Outside};
 ghost use Rattle.mask_message.specs.Counting.{most_run_steps};
@@ -105,6 +106,7 @@ fn sum_of_run<E: Entropy, W: Watch, L: Ledger>(
 ) -> Result<[u8; 16], Status>
     requires some { 1 ≤ order }
     requires few { order ≤ 7 }
+    requires cipher { IsCipher (method_of task.now) }
     requires count { length lines.now ≡ order + 1 }
     requires shape { AreKeyLines lines.now }
     requires length { line_length lines.now ≡ key_bytes task.now }
