@@ -104,7 +104,7 @@ module _ (o : Outside) (text bytes : List ℕ) (taken : Consumes (Some text) o.l
 
 -- as many lines as shares
 pub HasLines : Kind → Type 0
-HasLines (OnKeys count asked limit Did) = (1 ≤ count) × (count ≤ 8)
+HasLines (OnKeys count asked limit cost Did) = (1 ≤ count) × (count ≤ 8)
 HasLines kind = Unit {0}
 
 pub has_lines : (job : Job) (words : List Word) → HasOrder job → HasLines (kind_of job words)
@@ -155,23 +155,23 @@ module _ (decides : KeyFileOrFault) (o : Outside) (file keys text bytes : List �
   unfolding HasLines
   answers one none (OnCircuit checks cost bits Did) due lines late ends is =
       Ends-answers one none checks (Did o text) text o.left_after status due (Ends-told o text bytes taken checks (Did o) status ends) is
-  answers one none (OnKeys count asked None Did) due lines late ends (inl is) =
+  answers one none (OnKeys count asked None cost Did) due lines late ends (inl is) =
       elim ((decided count asked lines Did).due file keys o.keys_after status due keys_taken ends is) [
         | inl e ↦ inl e
         | inr e ↦ inr (inl e)
       ]
-  answers one none (OnKeys count asked None Did) due lines late ends (inr is) = absurd is.1
-  answers one none (OnKeys count asked (Some limit) Did) due lines late ends (inl is) =
+  answers one none (OnKeys count asked None cost Did) due lines late ends (inr is) = absurd is.1
+  answers one none (OnKeys count asked (Some limit) cost Did) due lines late ends (inl is) =
       elim ((decided count asked lines Did).due file keys o.keys_after status due keys_taken ends is) [
         | inl e ↦ inl e
         | inr e ↦ inr (inl e)
       ]
-  answers one none (OnKeys count asked (Some limit) Did) due lines late ends (inr is) =
+  answers one none (OnKeys count asked (Some limit) cost Did) due lines late ends (inr is) =
       elim ((decided count asked lines Did).done file keys o.keys_after status keys_taken ends is.0) [
         | inl did ↦ Late-answers limit text bytes o.left_after due status taken is.1 (late o did.0 bytes status did.2)
         | inr e ↦ inr (inl e)
       ]
-  answers one none (OnWords Did) due lines late ends is = absurd is
+  answers one none (OnWords cost Did) due lines late ends is = absurd is
 
   module _ (no_key : status ≡ KeyFault → ⊥) (no_read : status ≡ ReadFault → ⊥) (no_tape : status ≡ TapeFault → ⊥) (no_write : status ≡ WriteFault → ⊥) where
     -- what was done whole is done
@@ -196,12 +196,12 @@ module _ (decides : KeyFileOrFault) (o : Outside) (file keys text bytes : List �
     complete none (OnCircuit checks cost bits Did) lines late can (Does end within pass did) = late-done None status refl tt (late o bytes status did)
     complete none (OnCircuit checks cost bits Did) lines late can (Breaks (inl read)) = absurd (no_read read)
     complete none (OnCircuit checks cost bits Did) lines late can (Breaks (inr memory)) = inr memory
-    complete none (OnKeys count asked limit Did) lines late can ends =
+    complete none (OnKeys count asked limit cost Did) lines late can ends =
         elim ((decided count asked lines Did).done file keys o.keys_after status keys_taken ends can.0) [
           | inl did ↦ late-done limit status refl can.1 (late o did.0 bytes status did.2)
           | inr e ↦ absurd (no_key e)
         ]
-    complete none (OnWords Did) lines late can ends = late-done None status refl tt (late o bytes status ends)
+    complete none (OnWords cost Did) lines late can ends = late-done None status refl tt (late o bytes status ends)
 
 -- a count that a fault raised rose
 pub raised : (failed : Bool) (before now : ℕ) → now ≡ faults_after failed before → failed ≡ true → Rose before now

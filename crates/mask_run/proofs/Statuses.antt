@@ -89,9 +89,9 @@ RunsItself-unread seed N count o status h = absurd h.0
 
 abbrev pub DoesLate : Kind → Type 0
 DoesLate (OnCircuit checks cost bits Did) = (o : Outside) (text : List ℕ) (status : Status) → Did o text status → IsLate None text o.left_after status
-DoesLate (OnKeys count asked limit Did) = (o : Outside) (lines : List (List ℕ)) (bytes : List ℕ) (status : Status) → Did o lines bytes status →
+DoesLate (OnKeys count asked limit cost Did) = (o : Outside) (lines : List (List ℕ)) (bytes : List ℕ) (status : Status) → Did o lines bytes status →
     IsLate limit bytes o.left_after status
-DoesLate (OnWords Did) = (o : Outside) (bytes : List ℕ) (status : Status) → Did o status → IsLate None bytes o.left_after status
+DoesLate (OnWords cost Did) = (o : Outside) (bytes : List ℕ) (status : Status) → Did o status → IsLate None bytes o.left_after status
 
 pub does_late : (job : Job) (words : List Word) → DoesLate (kind_of job words)
 does_late (jobs.Eval order) words = λ o text status h. Evaluated-late text o.left_after text (word_at words 5) order o status h

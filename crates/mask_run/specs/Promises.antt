@@ -23,8 +23,9 @@ use Rattle.mask_secrets.specs.Splitting.{Splits, only_line}
 use Rattle.mask_secrets.specs.Joining.{Joins}
 use Rattle.mask_emit.specs.Emitting.{named, Emits}
 use Rattle.mask_message.specs.Outside.{Outside}
+use Rattle.mask_message.specs.Counting.{most_run_steps}
 use Rattle.mask_message.specs.Encrypting.{Streams}
-use Rattle.mask_self.specs.Selves.{RunsItself}
+use Rattle.mask_self.specs.Selves.{RunsItself, own_task}
 use Rattle.mask_run.specs.Outside.{sides}
 use Rattle.mask_run.specs.Calls.{eval_bits}
 use Rattle.mask_run.specs.Evaluating.{Evaluated}
@@ -34,11 +35,11 @@ pub data Kind : Type 1 where
   -- A circuit text of the input, of which this is tested, in order. On its circuit so many steps are counted at most, and so many
   -- bits drawn. This is what was done where no test fails, with the text that was taken.
   OnCircuit : (checks : List Check) → (cost bits : Netlist → ℕ) → (Did : Outside → List ℕ → Status → Type 0) → Kind
-  -- So many key lines of this length, and a message of no more bytes than the limit, if there is one. This is what was done with the
-  -- lines, and with the bytes of the message that were taken.
-  OnKeys : (count : ℕ) → (asked : KeyLength) → (limit : Option ℕ) → (Did : Outside → List (List ℕ) → List ℕ → Status → Type 0) → Kind
-  -- the words alone
-  OnWords : (Did : Outside → Status → Type 0) → Kind
+  -- So many key lines of this length, and a message of no more bytes than the limit, if there is one. On so many bytes of it so many
+  -- steps are counted at most. This is what was done with the lines, and with the bytes of the message that were taken.
+  OnKeys : (count : ℕ) → (asked : KeyLength) → (limit : Option ℕ) → (cost : ℕ → ℕ) → (Did : Outside → List (List ℕ) → List ℕ → Status → Type 0) → Kind
+  -- the words alone, with so many steps at most
+  OnWords : (cost : ℕ) → (Did : Outside → Status → Type 0) → Kind
 
 -- the promise of each job
 abbrev pub kind_of : Job → List Word → Kind
@@ -51,26 +52,28 @@ kind_of jobs.Upgrade words = OnCircuit (Grammar ∷ [])
 kind_of (jobs.Probe order) words = OnCircuit (Grammar ∷ Acceptance ∷ Probes order (wires_of words) ∷ [])
     most_steps (λ c. 0) (λ o text status. PrintsNeed text order (wires_of words) o.out_before o.out_after status)
 kind_of (jobs.Enc task order) words = OnKeys (suc order) (Exactly (key_bytes task)) (Some (longest_message task))
-    (λ o lines bytes status. Streams task (suc order) lines bytes o status)
-kind_of (jobs.Split order) words = OnKeys 1 Any None (λ o lines bytes status. Splits order (only_line lines) (sides o) status)
-kind_of (jobs.Join order) words = OnKeys (suc order) Any None (λ o lines bytes status. Joins o.out_before o.out_after lines status)
-kind_of (jobs.Emit circuit) words = OnWords (λ o status. Emits (named circuit) o.out_before o.out_after status)
-kind_of (jobs.SelfRun seed count order) words = OnWords (λ o status. RunsItself seed (suc order) count o status)
+    (most_run_steps task) (λ o lines bytes status. Streams task (suc order) lines bytes o status)
+kind_of (jobs.Split order) words = OnKeys 1 Any None (λ n. 0) (λ o lines bytes status. Splits order (only_line lines) (sides o) status)
+kind_of (jobs.Join order) words = OnKeys (suc order) Any None (λ n. 0) (λ o lines bytes status. Joins o.out_before o.out_after lines status)
+kind_of (jobs.Emit circuit) words = OnWords (most_steps (named circuit)) (λ o status. Emits (named circuit) o.out_before o.out_after status)
+kind_of (jobs.SelfRun seed count order) words = OnWords (most_run_steps (own_task seed (suc order)) count)
+    (λ o status. RunsItself seed (suc order) count o status)
 
 -- how such a job ends where it took these bytes of the key file and of the input
 abbrev pub EndsOn : Kind → Outside → List ℕ → List ℕ → Status → Type 0
 EndsOn (OnCircuit checks cost bits Did) o keys text status = Ends (2 ^ 25) checks (Did o text) text o.left_after status
-EndsOn (OnKeys count asked limit Did) o keys text status = KeyEnds count asked (λ lines s. Did o lines text s) keys o.keys_after status
-EndsOn (OnWords Did) o keys text status = Did o status
+EndsOn (OnKeys count asked limit cost Did) o keys text status = KeyEnds count asked (λ lines s. Did o lines text s) keys o.keys_after status
+EndsOn (OnWords cost Did) o keys text status = Did o status
 
 -- the tape is as it was, or these bytes were read and stand for a circuit on which so many bits are drawn, at least one
 abbrev pub AsksOnlyFor : Type 0 → (Netlist → ℕ) → List ℕ → Option (List ℕ) → Type 0
 AsksOnlyFor same bits bytes rest = same ⊎ ((c : Netlist) × IsRead bytes rest c × (1 ≤ bits c))
 
--- what a job on a circuit counts and asks for
+-- what a job counts, where it took these bytes of the input, and what one on a circuit asks for
 abbrev pub Costs : Kind → Outside → List ℕ → Type 0
 Costs (OnCircuit checks cost bits Did) o text = CostsAtMost cost o.steps_before o.steps_after text o.left_after
-Costs kind o text = Unit {0}
+Costs (OnKeys count asked limit cost Did) o text = o.steps_after ≤ o.steps_before + cost (length text)
+Costs (OnWords cost Did) o text = o.steps_after ≤ o.steps_before + cost
 
 abbrev pub Asks : Kind → Type 0 → Outside → List ℕ → Type 0
 Asks (OnCircuit checks cost bits Did) same o text = AsksOnlyFor same bits text o.left_after
@@ -99,22 +102,22 @@ IsWithinLimit (Some limit) text = length text ≤ limit
 abbrev pub IsDue : Kind → List ℕ → List ℕ → Status → Type 0
 IsDue (OnCircuit checks cost bits Did) keys text status = ((2 ^ 25 < length text) × (status ≡ TooLong (2 ^ 25)))
     ⊎ ((length text ≤ 2 ^ 25) × FirstFailure checks text status)
-IsDue (OnKeys count asked limit Did) keys text status = IsKeysDue count asked keys status
+IsDue (OnKeys count asked limit cost Did) keys text status = IsKeysDue count asked keys status
     ⊎ (IsInForm count asked keys × PassesLimit limit text status)
-IsDue (OnWords Did) keys text status = ⊥
+IsDue (OnWords cost Did) keys text status = ⊥
 
 -- what may come before it: faults of what is read, and want of memory; and behind a key file in form, what comes batch by batch
 abbrev pub earlier : Kind → List Status
 earlier (OnCircuit checks cost bits Did) = ReadFault ∷ NoMemory ∷ []
-earlier (OnKeys count asked None Did) = KeyFault ∷ []
-earlier (OnKeys count asked (Some limit) Did) = KeyFault ∷ ReadFault ∷ TapeFault ∷ WriteFault ∷ NoMemory ∷ []
-earlier (OnWords Did) = []
+earlier (OnKeys count asked None cost Did) = KeyFault ∷ []
+earlier (OnKeys count asked (Some limit) cost Did) = KeyFault ∷ ReadFault ∷ TapeFault ∷ WriteFault ∷ NoMemory ∷ []
+earlier (OnWords cost Did) = []
 
 -- key file and input are such that the job can be done
 abbrev pub CanBeDone : Kind → List ℕ → List ℕ → Type 0
 CanBeDone (OnCircuit checks cost bits Did) keys text = (length text ≤ 2 ^ 25) × AllPass checks text
-CanBeDone (OnKeys count asked limit Did) keys text = IsInForm count asked keys × IsWithinLimit limit text
-CanBeDone (OnWords Did) keys text = Unit {0}
+CanBeDone (OnKeys count asked limit cost Did) keys text = IsInForm count asked keys × IsWithinLimit limit text
+CanBeDone (OnWords cost Did) keys text = Unit {0}
 
 -- the job reads a circuit text
 abbrev pub ReadsCircuit : Job → Type 0

@@ -1,4 +1,4 @@
-use Rattle.std.proofs.Common.{[], None, refl, inl}
+use Rattle.std.proofs.Common.{◌+◌, ◌≤◌, [], None, refl, inl, arith}
 use Rattle.std.proofs.KnownBytes.{Consumes-nil}
 use Rattle.mask_run.proofs.Statuses.{RunsItself-unread}
 use Rattle.mask_run.proofs.Telling.{TellsSecureCalls-strong}
@@ -33,26 +33,26 @@ pub returns-in-Enc-clause-ends : goal.returns-in-Enc-clause-ends
 returns-in-Enc-clause-ends g c =
     let run = c.enc.ensures.ends in
     rw c.in-Enc.is
-    (record { keys = run.keys; keys_taken = run.keys_taken; bytes = run.bytes; taken = run.taken; ends = run.ends; costs = tt; asks = tt })
+    (record { keys = run.keys; keys_taken = run.keys_taken; bytes = run.bytes; taken = run.taken; ends = run.ends; costs = run.counted; asks = tt })
 
 pub returns-in-Split-clause-ends : goal.returns-in-Split-clause-ends
 returns-in-Split-clause-ends g c =
     let taken = c.split.ensures.ends in
     rw c.in-Split.is
-    (record { keys = taken.0; keys_taken = taken.1; bytes = []; taken = Consumes-nil _; ends = taken.2; costs = tt; asks = tt })
+    (record { keys = taken.0; keys_taken = taken.1; bytes = []; taken = Consumes-nil _; ends = taken.2; costs = omega arith; asks = tt })
 
 pub returns-in-Join-clause-ends : goal.returns-in-Join-clause-ends
 returns-in-Join-clause-ends g c =
     let taken = c.join.ensures.ends in
     rw c.in-Join.is
-    (record { keys = taken.0; keys_taken = taken.1; bytes = []; taken = Consumes-nil _; ends = taken.2; costs = tt; asks = tt })
+    (record { keys = taken.0; keys_taken = taken.1; bytes = []; taken = Consumes-nil _; ends = taken.2; costs = omega arith; asks = tt })
 
 -- WORDS ALONE
 
 pub returns-in-Emit-clause-ends : goal.returns-in-Emit-clause-ends
 returns-in-Emit-clause-ends g c =
     rw c.in-Emit.is
-    (record { keys = []; keys_taken = Consumes-nil _; bytes = []; taken = Consumes-nil _; ends = c.emit.ensures.ends; costs = tt; asks = tt })
+    (record { keys = []; keys_taken = Consumes-nil _; bytes = []; taken = Consumes-nil _; ends = c.emit.ensures.ends; costs = c.emit.ensures.steps; asks = tt })
 
 pub returns-in-SelfRun-clause-ends : goal.returns-in-SelfRun-clause-ends
 returns-in-SelfRun-clause-ends g c =
@@ -63,7 +63,7 @@ returns-in-SelfRun-clause-ends g c =
       bytes = [];
       taken = Consumes-nil _;
       ends = c.self_run.ensures.ends (g.K.Source.left c.args.keys.now) (g.S.Source.left c.args.input.now);
-      costs = tt;
+      costs = c.self_run.ensures.steps;
       asks = tt;
     })
 
