@@ -7,7 +7,7 @@ mod tasks;
 
 pub use names::{Named, circuit_named, names_are_distinct};
 pub use sizes::{KeySize, LeaSize};
-pub use tasks::{Task, key_length, message_limit};
+pub use tasks::{Task, key_length, message_limit, tasks_are_whole};
 
 #[cfg(test)]
 mod tests;

@@ -1,17 +1,19 @@
 //! What is done with a message under a key.
 
-ghost use Rattle.std.specs.Prelude.{◌≡◌};
-ghost use Rattle.mask_tasks.specs.Tasks.{key_bytes, longest_message};
+ghost use Rattle.std.specs.Prelude.{◌≡◌, length};
+ghost use Rattle.mask_tasks.specs.Tasks.{IsTask, key_bytes, longest_message};
 
 use crate::sizes::{KeySize, LeaSize};
 
-/// A cipher in counter mode. An IV is the big-endian number of its bytes.
+/// A cipher, and its IV. Block ciphers are used in counter mode, and their IV is the big-endian number of its bytes.
 #[derive(Clone, Copy, Debug, PartialEq, Eq)]
 pub enum Task {
     /// PRESENT (ISO/IEC 29192-2)
     Present { size: KeySize, iv: u64 },
     /// LEA (ISO/IEC 29192-2)
     Lea { size: LeaSize, iv: u128 },
+    /// Trivium (ISO/IEC 29192-3)
+    Trivium { iv: [u8; 10] },
 }
 
 /// The length of a key in bytes.
@@ -21,6 +23,7 @@ pub fn key_length(task: &Task) -> u32
     match *task {
         Task::Present { size, .. } => size.bytes(),
         Task::Lea { size, .. } => size.bytes(),
+        Task::Trivium { .. } => 10,
     }
 }
 
@@ -29,6 +32,23 @@ pub fn message_limit(task: &Task) -> u64
     ensures { result ≡ longest_message task.now }
 {
     match *task {
-        Task::Present { .. } | Task::Lea { .. } => 268_435_456,
+        Task::Present { .. } | Task::Lea { .. } | Task::Trivium { .. } => 268_435_456,
     }
+}
+
+/// The IV of Trivium has ten bytes.
+pub fn tasks_are_whole(task: &Task)
+    ensures { IsTask task.now }
+{
+    match *task {
+        Task::Trivium { iv } => has_ten_bytes(&iv),
+        Task::Present { .. } | Task::Lea { .. } => {}
+    }
+}
+
+// An array is as long as its type says.
+fn has_ten_bytes(iv: &[u8; 10])
+    ensures { length iv.now ≡ 10 }
+{
+    let _first = iv[0];
 }

@@ -29,4 +29,7 @@ fn tasks_have_lengths(rt: HostRuntime) {
     };
     assert_eq!(rt; key_length(&cipher), 24);
     assert_eq!(rt; message_limit(&cipher), 268_435_456);
+    let cipher = Task::Trivium { iv: [0; 10] };
+    assert_eq!(rt; key_length(&cipher), 10);
+    assert_eq!(rt; message_limit(&cipher), 268_435_456);
 }
