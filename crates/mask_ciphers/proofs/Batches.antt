@@ -2,11 +2,11 @@
 use Rattle.std.proofs.Common.{◌≡◌, ℕ, ◌+◌, ◌-◌, ◌*◌, ◌/◌, ◌%◌, ◌^◌, ◌<◌, ◌≤◌, refl, sym, ap, ◌∙◌, arith}
 use Rattle.std.proofs.Math.Nat.{div-add-mod, mul-add-div_right, le-mul_of_pos_right}
 use Rattle.mask_tasks.specs.declared.tasks.Task.{Task}
-use Rattle.mask_tasks.specs.declared.tasks.Task.TheVariants.{Present, Lea}
+use Rattle.mask_tasks.specs.declared.tasks.Task.TheVariants.{Present, Lea, Trivium}
 use Rattle.mask_tasks.specs.Tasks.{longest_message}
 use Rattle.mask_modes.specs.CounterMode.{block_count}
 use Rattle.mask_modes.proofs.BlockCounts.{block_count-add, block_count-whole, block_count_grows}
-use Rattle.mask_ciphers.specs.Methods.{AreBatches, batch}
+use Rattle.mask_ciphers.specs.Methods.{Method, InCounterMode, AsStream, AreBatches, batch}
 use Rattle.mask_ciphers.specs.Tasks.{method_of}
 
 -- so many bytes are 64 blocks of b bytes, n times
@@ -53,9 +53,21 @@ some_blocks b n some one = omega (arith, block_of_byte b 0 n some one)
 pub some_batch : (task : Task) → 0 < batch (method_of task)
 some_batch (Present size iv) = omega arith
 some_batch (Lea size iv) = omega arith
+some_batch (Trivium iv) = omega arith
+
+-- in counter mode a block has some bytes
+abbrev pub HasBlocks : Method → Type 0
+HasBlocks (InCounterMode m cipher) = 0 < m.block
+HasBlocks (AsStream iv) = Unit {0}
+
+pub has_blocks : (task : Task) → HasBlocks (method_of task)
+has_blocks (Present size iv) = omega arith
+has_blocks (Lea size iv) = omega arith
+has_blocks (Trivium iv) = tt
 
 -- The longest message is whole batches: where more bytes pass it, whole batches have reached it.
 pub batches_reach : (task : Task) (limit n k : ℕ) → limit ≡ longest_message task → AreBatches (method_of task) n → n ≤ longest_message task →
     k ≤ batch (method_of task) → limit < n + k → n ≡ limit
 batches_reach (Present size iv) limit n k is whole within few over = omega arith
 batches_reach (Lea size iv) limit n k is whole within few over = omega arith
+batches_reach (Trivium iv) limit n k is whole within few over = omega arith

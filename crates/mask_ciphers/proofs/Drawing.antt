@@ -10,7 +10,7 @@ use Rattle.mask_tasks.specs.declared.sizes.KeySize.{KeySize}
 use Rattle.mask_tasks.specs.declared.sizes.KeySize.TheVariants.{K80, K128}
 use Rattle.mask_tasks.specs.declared.sizes.LeaSize.{LeaSize}
 use Rattle.mask_tasks.specs.declared.sizes.LeaSize.TheVariants as lea_size
-use Rattle.mask_tasks.specs.declared.tasks.Task.TheVariants.{Present, Lea}
+use Rattle.mask_tasks.specs.declared.tasks.Task.TheVariants.{Present, Lea, Trivium}
 use Rattle.mask_tasks.specs.Sizes.{present_bytes, lea_bytes}
 use Rattle.mask_parts.specs.CipherCircuits.{Size, size_of}
 use Rattle.mask_present.specs.NamedPresent.{named_present}
@@ -26,6 +26,7 @@ use Rattle.mask_modes.proofs.TapeBits.{run_bits}
 use Rattle.mask_ciphers.specs.Tasks.{lea_cipher, lea_mode, present_cipher, present_mode}
 use Rattle.mask_ciphers.specs.Totals.{gate_bits, present_gates, present_key_gates, lea_gates, lea_key_gates, counter_bits, total}
 use Rattle.mask_ciphers.specs.Laws.{RunsDrawTotals}
+use Rattle.mask_streams.proofs.TapeBits.{run_bits as stream_bits}
 use Rattle.mask_ciphers.proofs.Enciphering.{tasks_encipher}
 
 -- d + 1 shares have so many pairs
@@ -80,8 +81,9 @@ draws-lea_key lea_size.K256 = draws-refreshing 256
 pub runs_draw_totals : RunsDrawTotals
 unfolding total
 runs_draw_totals (Present size iv) d message =
-    run_draws (present_mode size iv) (present_cipher size) (present_gates size) (present_key_gates size) d message (tasks_encipher (Present size iv))
+    run_draws (present_mode size iv) (present_cipher size) (present_gates size) (present_key_gates size) d message (tasks_encipher (Present size iv) tt)
     (draws-present size d) (draws-present_key size d)
 runs_draw_totals (Lea size iv) d message =
-    run_draws (lea_mode size iv) (lea_cipher size) (lea_gates size) (lea_key_gates size) d message (tasks_encipher (Lea size iv))
+    run_draws (lea_mode size iv) (lea_cipher size) (lea_gates size) (lea_key_gates size) d message (tasks_encipher (Lea size iv) tt)
     (draws-lea size d) (draws-lea_key size d)
+runs_draw_totals (Trivium iv) d message = stream_bits d iv message

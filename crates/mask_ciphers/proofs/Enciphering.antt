@@ -8,7 +8,7 @@ use Rattle.mask_tasks.specs.declared.sizes.KeySize.{KeySize}
 use Rattle.mask_tasks.specs.declared.sizes.KeySize.TheVariants.{K80, K128}
 use Rattle.mask_tasks.specs.declared.sizes.LeaSize.{LeaSize}
 use Rattle.mask_tasks.specs.declared.sizes.LeaSize.TheVariants as lea_size
-use Rattle.mask_tasks.specs.declared.tasks.Task.TheVariants.{Present, Lea}
+use Rattle.mask_tasks.specs.declared.tasks.Task.TheVariants.{Present, Lea, Trivium}
 use Rattle.mask_tasks.specs.Sizes.{present_bytes, lea_bytes}
 use Rattle.mask_parts.specs.CipherCircuits.{Size, size_of, IsCipherCircuit}
 use Rattle.mask_present.specs.Present.{register, present}
@@ -145,6 +145,7 @@ lea_enciphers size iv =
 -- EVERY TASK
 
 pub tasks_encipher : TasksEncipher
-tasks_encipher (Present size iv) =
+tasks_encipher (Present size iv) is =
     numbers_are_blocks.high_first (present_mode size iv) (λ key. present size (number key)) (present_enciphers size iv)
-tasks_encipher (Lea size iv) = numbers_are_blocks.low_first (lea_mode size iv) (λ key. lea size (number key)) (lea_enciphers size iv)
+tasks_encipher (Lea size iv) is = numbers_are_blocks.low_first (lea_mode size iv) (λ key. lea size (number key)) (lea_enciphers size iv)
+tasks_encipher (Trivium iv) is = is

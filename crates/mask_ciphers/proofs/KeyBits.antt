@@ -2,7 +2,7 @@
 use Rattle.std.proofs.Common.{◌≡◌, ℕ, ◌+◌, ◌-◌, ◌*◌, ◌/◌, ◌%◌, ◌<◌, Bool, false, List, length, get_or, refl, sym, ap, ◌∙◌, arith}
 use Rattle.mask_bits.specs.Reading.{bit, low, high}
 use Rattle.mask_tasks.specs.declared.tasks.Task.{Task}
-use Rattle.mask_tasks.specs.declared.tasks.Task.TheVariants.{Present, Lea}
+use Rattle.mask_tasks.specs.declared.tasks.Task.TheVariants.{Present, Lea, Trivium}
 use Rattle.mask_tasks.specs.Tasks.{key_bytes}
 use Rattle.mask_modes.proofs.Readings.{bytes_are_read}
 use Rattle.mask_ciphers.specs.Methods.{key_width}
@@ -50,11 +50,13 @@ low_reads_bits = record {
 pub key_reads_bits : (task : Task) → ReadsBits (key_bits task)
 key_reads_bits (Present size iv) = high_reads_bits
 key_reads_bits (Lea size iv) = low_reads_bits
+key_reads_bits (Trivium iv) = low_reads_bits
 
 -- a method takes eight bits for each byte of a key
 pub key_in_bytes : (task : Task) → key_width (method_of task) ≡ 8 * key_bytes task
 key_in_bytes (Present size iv) = refl
 key_in_bytes (Lea size iv) = refl
+key_in_bytes (Trivium iv) = refl
 
 -- a key has the bits that the method takes
 pub length-key_bits : (task : Task) (key : List ℕ) → length key ≡ key_bytes task → length (key_bits task key) ≡ key_width (method_of task)

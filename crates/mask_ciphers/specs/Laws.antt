@@ -2,23 +2,24 @@
 use Rattle.std.specs.Prelude.{◌≡◌, ℕ, suc, ◌+◌, ◌*◌, ◌≤◌, Bool, true, false, List, [], ◌++◌, length, take}
 use Rattle.mask_bits.specs.Reading.{AreBytes}
 use Rattle.mask_tasks.specs.declared.tasks.Task.{Task}
-use Rattle.mask_tasks.specs.Tasks.{key_bytes}
+use Rattle.mask_tasks.specs.Tasks.{IsTask, key_bytes}
 use Rattle.mask_keys.specs.Lines.{AreKeyLines, line_length, joined}
 use Rattle.mask_trace.specs.Steps.{Registers, Step, IsStrongPlan, bits_of}
 use Rattle.mask_trace.specs.Values.{HasShares, values_of, value_after}
 use Rattle.mask_trace.specs.Laws.{IsRun}
 use Rattle.mask_trace.specs.Privacy.{IsPrivateTrace}
 use Rattle.mask_modes.specs.Steps.{Enciphers}
-use Rattle.mask_ciphers.specs.Methods.{Method, InCounterMode, AreBatches, IsCipher, MayEnd, ahead, batch, fed_gates, fed_steps, gates_of, next_gates, next_output, next_steps, run_gates}
+use Rattle.mask_ciphers.specs.Methods.{Method, InCounterMode, AsStream, AreBatches, IsCipher, MayEnd, ahead, batch, fed_gates, fed_steps, gates_of, next_gates, next_output, next_steps, run_gates}
 use Rattle.mask_ciphers.specs.Tasks.{fed_output, held_at_first, method_of, output, plan, with_lines}
 use Rattle.mask_ciphers.specs.Totals.{total}
 
--- The circuits of a method compute what it takes them for.
+-- The circuits of a method compute what it takes them for; those of Trivium do so with an IV of ten bytes.
 abbrev pub IsSound : Method → Type 0
 IsSound (InCounterMode m cipher) = Enciphers cipher m
+IsSound (AsStream iv) = length iv ≡ 10
 
 abbrev pub TasksEncipher : Type 0
-TasksEncipher = (task : Task) → IsSound (method_of task)
+TasksEncipher = (task : Task) → IsTask task → IsSound (method_of task)
 
 -- A ciphertext is as long as its message, and that of a beginning of the message is a beginning of it.
 pub record OutputsAreCiphertexts : Type 0 where
@@ -39,10 +40,10 @@ pub record MessagesGoOn : Type 0 where
       fed_steps (method_of task) (front ++ piece) ≡ fed_steps (method_of task) front ++ next_steps (method_of task) (length front) piece false
   pub steps_last : (task : Task) (front piece : List ℕ) → AreBatches (method_of task) (length front) → MayEnd (method_of task) (length front) piece →
       plan task (front ++ piece) ≡ fed_steps (method_of task) front ++ next_steps (method_of task) (length front) piece true
-  pub output_fed : (task : Task) (key front piece : List ℕ) → length key ≡ key_bytes task → AreBatches (method_of task) (length front) →
+  pub output_fed : (task : Task) → IsTask task → (key front piece : List ℕ) → length key ≡ key_bytes task → AreBatches (method_of task) (length front) →
       length piece ≡ batch (method_of task) →
       fed_output task key (front ++ piece) ≡ fed_output task key front ++ next_output (method_of task) (held_behind task key front) (length front) piece false
-  pub output_last : (task : Task) (key front piece : List ℕ) → length key ≡ key_bytes task → AreBatches (method_of task) (length front) →
+  pub output_last : (task : Task) → IsTask task → (key front piece : List ℕ) → length key ≡ key_bytes task → AreBatches (method_of task) (length front) →
       MayEnd (method_of task) (length front) piece →
       output task key (front ++ piece) ≡ fed_output task key front ++ next_output (method_of task) (held_behind task key front) (length front) piece true
 
@@ -92,8 +93,8 @@ pub record IsPrivateRun (N : ℕ) (task : Task) (message : List ℕ) (count : �
   pub private : IsPrivateTrace N (8 * key_bytes task) (take count (plan task message))
 
 abbrev pub RunsArePrivate : Type 0
-RunsArePrivate = (N : ℕ) (task : Task) (message : List ℕ) (count : ℕ) → 2 ≤ N → IsPrivateRun N task message count
+RunsArePrivate = (N : ℕ) (task : Task) → IsTask task → (message : List ℕ) (count : ℕ) → 2 ≤ N → IsPrivateRun N task message count
 
 -- The steps of every task are a strong plan.
 abbrev pub PlansAreStrong : Type 0
-PlansAreStrong = (task : Task) (message : List ℕ) → IsStrongPlan (8 * key_bytes task) 0 (plan task message)
+PlansAreStrong = (task : Task) → IsTask task → (message : List ℕ) → IsStrongPlan (8 * key_bytes task) 0 (plan task message)

@@ -1,23 +1,28 @@
 -- How a message is taken piece by piece: the steps of a piece, and what is written of it.
 --
 -- A piece is a batch, or the last bytes of the message. Behind n bytes, which are whole batches, it comes next.
-use Rattle.std.specs.Prelude.{◌≡◌, ℕ, ◌+◌, ◌-◌, ◌*◌, ◌%◌, ◌≤◌, Bool, cond, List, [], ◌∷◌, length, sum_by}
+use Rattle.std.specs.Prelude.{◌≡◌, ℕ, zero, suc, ◌+◌, ◌-◌, ◌*◌, ◌%◌, ◌≤◌, Bool, cond, List, [], ◌∷◌, length, sum_by}
 use Rattle.mask_check.specs.Costs.{most_steps}
 use Rattle.mask_trace.specs.Steps.{Registers, Step}
+use Rattle.mask_trivium.specs.NamedTrivium.{named_start, named_step}
 use Rattle.mask_modes.specs.CounterMode.{block_count, ciphertext_from}
 use Rattle.mask_modes.specs.Steps.{Mode, Cipher, ahead_of, blocks, is_due, steps_from, steps_of}
+use Rattle.mask_streams.specs.Streams as stream
 
--- in counter mode, the blocks of this cipher
+-- in counter mode, the blocks of this cipher; or with the keystream of Trivium under this IV
 pub data Method : Type 0 where
   InCounterMode : Mode → Cipher → Method
+  AsStream : List ℕ → Method
 
--- how many bytes are taken at once: 64 blocks
+-- how many bytes are taken at once: 64 blocks in counter mode, and one of Trivium
 abbrev pub batch : Method → ℕ
 batch (InCounterMode m cipher) = 64 * m.block
+batch (AsStream iv) = 8
 
 -- how many bytes a block has that is handed out
 abbrev pub block : Method → ℕ
 block (InCounterMode m cipher) = m.block
+block (AsStream iv) = 8
 
 -- so many bytes are whole batches
 abbrev pub AreBatches : Method → ℕ → Type 0
@@ -26,63 +31,83 @@ AreBatches method n = n % batch method ≡ 0
 -- These may be the last bytes of a message behind n others, which are whole batches.
 abbrev pub MayEnd : Method → ℕ → List ℕ → Type 0
 MayEnd (InCounterMode m cipher) n piece = Unit {0}
+MayEnd (AsStream iv) n piece = Unit {0}
 
 -- What is written are the pieces' own ciphertexts, and nothing but batches decides what they are.
 abbrev pub IsCipher : Method → Type 0
 IsCipher (InCounterMode m cipher) = Unit {0}
+IsCipher (AsStream iv) = Unit {0}
 
 -- the bits of a key
 abbrev pub key_width : Method → ℕ
 key_width (InCounterMode m cipher) = m.key
+key_width (AsStream iv) = 80
 
 -- the steps of a message
 abbrev pub plan : Method → List ℕ → List Step
 plan (InCounterMode m cipher) message = steps_of m message
+plan (AsStream iv) message = stream.stream_plan iv message
 
 -- those of whole batches, behind which more of the message comes
 abbrev pub fed_steps : Method → List ℕ → List Step
 fed_steps (InCounterMode m cipher) front = steps_of m front
+fed_steps (AsStream iv) front = stream.stream_plan iv front
 
 -- those of the next piece, whether it is the last or not
 abbrev pub next_steps : Method → ℕ → List ℕ → Bool → List Step
 next_steps (InCounterMode m cipher) n piece last = steps_from m (block_count m.block n) (blocks m.block piece)
+next_steps (AsStream iv) n piece last = stream.steps_behind iv n piece
 
--- those that come ahead of the next piece's own: in counter mode a refresh of the key, where one is due
+-- those that come ahead of the next piece's own: in counter mode a refresh of the key, where one is due, and else what makes the
+-- first state
 abbrev pub ahead : Method → ℕ → Bool → List Step
 ahead (InCounterMode m cipher) n last = ahead_of m (block_count m.block n)
+ahead (AsStream iv) n last = stream.ahead iv n
 
 -- what is written of the next piece, where these bits are held
 abbrev pub next_output : Method → Registers Bool → ℕ → List ℕ → Bool → List ℕ
 next_output (InCounterMode m cipher) held n piece last = ciphertext_from m.block m.iv (cipher held.key) (block_count m.block n) piece
+next_output (AsStream iv) held n piece last = stream.output_behind iv held n piece
 
 -- and how many bytes that are
 abbrev pub next_length : Method → List ℕ → Bool → ℕ
 next_length (InCounterMode m cipher) piece last = length piece
+next_length (AsStream iv) piece last = length piece
 
--- how many gates are evaluated for the next piece: those of the cipher's circuit once for all blocks, and those of a refresh
+-- the gates of these steps' circuits
+abbrev pub gates_of : List Step → ℕ
+gates_of steps = sum_by (λ step. length step.circuit.gates) steps
+
+-- How many gates are evaluated for the next piece: in counter mode those of the cipher's circuit once for all blocks, and those of a
+-- refresh; and else those of each step.
 abbrev pub batch_gates : Mode → ℕ → List ℕ → ℕ
 batch_gates m i [] = 0
 batch_gates m i piece = cond (is_due i) (length m.refresh.gates) 0 + length m.circuit.gates
 
 abbrev pub next_gates : Method → ℕ → List ℕ → Bool → ℕ
 next_gates (InCounterMode m cipher) n piece last = batch_gates m (block_count m.block n) piece
+next_gates (AsStream iv) n piece last = gates_of (stream.steps_behind iv n piece)
 
 -- the gates of so many batches: one evaluation for all blocks of a batch, and a refresh of the key ahead of each batch but the first
 abbrev pub gates_of_batches : Mode → ℕ → ℕ
 gates_of_batches m count = count * length m.circuit.gates + (count - 1) * length m.refresh.gates
 
--- how many gates are evaluated for a message of n bytes, the last batch perhaps filled in part
+-- and of so many blocks of Trivium: those of the start, and of a step for each block
+abbrev pub stream_gates : ℕ → ℕ
+stream_gates zero = 0
+stream_gates (suc count) = length named_start.gates + suc count * length named_step.gates
+
+-- How many gates are evaluated for a message of n bytes, the last batch perhaps filled in part. They don't depend on the bytes.
 unfoldable pub run_gates : Method → ℕ → ℕ
 run_gates (InCounterMode m cipher) n = gates_of_batches m (block_count (64 * m.block) n)
+run_gates (AsStream iv) n = stream_gates (block_count 8 n)
 
 -- and for n bytes that are whole batches, behind which more of the message comes
 unfoldable pub fed_gates : Method → ℕ → ℕ
 fed_gates (InCounterMode m cipher) n = gates_of_batches m (block_count (64 * m.block) n)
-
--- the gates of these steps' circuits
-abbrev pub gates_of : List Step → ℕ
-gates_of steps = sum_by (λ step. length step.circuit.gates) steps
+fed_gates (AsStream iv) n = stream_gates (block_count 8 n)
 
 -- the most steps that its circuits take before they are evaluated: the values that the checker visits
 abbrev pub start_steps : Method → ℕ
 start_steps (InCounterMode m cipher) = most_steps m.circuit + most_steps m.refresh
+start_steps (AsStream iv) = most_steps named_start + most_steps named_step

@@ -5,7 +5,7 @@ use Rattle.mask_circuit.specs.Wires.{each}
 use Rattle.mask_tasks.specs.declared.sizes.KeySize.{KeySize}
 use Rattle.mask_tasks.specs.declared.sizes.LeaSize.{LeaSize}
 use Rattle.mask_tasks.specs.declared.tasks.Task.{Task}
-use Rattle.mask_tasks.specs.declared.tasks.Task.TheVariants.{Present, Lea}
+use Rattle.mask_tasks.specs.declared.tasks.Task.TheVariants.{Present, Lea, Trivium}
 use Rattle.mask_tasks.specs.Sizes.{present_bytes, lea_bytes}
 use Rattle.mask_tasks.specs.Tasks.{key_bytes}
 use Rattle.mask_present.specs.Present.{present}
@@ -17,6 +17,7 @@ use Rattle.mask_trace.specs.Steps.{Registers, Step}
 use Rattle.mask_trace.specs.Traces.{BitShares}
 use Rattle.mask_modes.specs.CounterMode.{counter_mode}
 use Rattle.mask_modes.specs.Steps.{Mode, Cipher, on_numbers, on_little_numbers}
+use Rattle.mask_streams.specs.Streams.{stream_cipher}
 use Rattle.mask_ciphers.specs.Methods as methods
 
 -- PRESENT on blocks of eight bytes: big-endian numbers (ISO/IEC 29192-2)
@@ -31,12 +32,14 @@ lea_cipher size = on_little_numbers 16 (λ key. lea size (number key))
 abbrev pub key_bits : Task → List ℕ → List Bool
 key_bits (Present size iv) key = high key
 key_bits (Lea size iv) key = low key
+key_bits (Trivium iv) key = low key
 
--- What is written of a message under a key: with a cipher its ciphertext in counter mode (ISO/IEC 10116), where the first
--- counter is the IV.
+-- What is written of a message under a key: with a block cipher its ciphertext in counter mode (ISO/IEC 10116), where the first
+-- counter is the IV; and with Trivium its XOR with the keystream (ISO/IEC 29192-3).
 unfoldable pub output : Task → List ℕ → List ℕ → List ℕ
 output (Present size iv) key message = counter_mode 8 iv (present_cipher size (high key)) message
 output (Lea size iv) key message = counter_mode 16 iv (lea_cipher size (low key)) message
+output (Trivium iv) key message = stream_cipher key iv message
 
 -- how the circuits of PRESENT are used
 abbrev pub present_mode : KeySize → ℕ → Mode
@@ -64,6 +67,7 @@ lea_mode size iv = record {
 abbrev pub method_of : Task → methods.Method
 method_of (Present size iv) = methods.InCounterMode (present_mode size iv) (present_cipher size)
 method_of (Lea size iv) = methods.InCounterMode (lea_mode size iv) (lea_cipher size)
+method_of (Trivium iv) = methods.AsStream iv
 
 -- the steps of a run on a message
 abbrev pub plan : Task → List ℕ → List Step
@@ -73,6 +77,7 @@ plan task message = methods.plan (method_of task) message
 unfoldable pub fed_output : Task → List ℕ → List ℕ → List ℕ
 fed_output (Present size iv) key front = output (Present size iv) key front
 fed_output (Lea size iv) key front = output (Lea size iv) key front
+fed_output (Trivium iv) key front = output (Trivium iv) key front
 
 -- the shares of the bits of a key that is split into lines: share i of a bit is its bit in line i
 unfoldable pub key_shares : Task → List (List ℕ) → List BitShares

@@ -5,7 +5,8 @@ use Rattle.mask_tasks.specs.declared.sizes.KeySize.TheVariants.{K80, K128}
 use Rattle.mask_tasks.specs.declared.sizes.LeaSize.{LeaSize}
 use Rattle.mask_tasks.specs.declared.sizes.LeaSize.TheVariants as lea_size
 use Rattle.mask_tasks.specs.declared.tasks.Task.{Task}
-use Rattle.mask_tasks.specs.declared.tasks.Task.TheVariants.{Present, Lea}
+use Rattle.mask_tasks.specs.declared.tasks.Task.TheVariants.{Present, Lea, Trivium}
+use Rattle.mask_streams.specs.Streams.{stream_bits}
 
 -- the bits that a product or a refresh draws: one for each pair of shares
 abbrev pub gate_bits : ℕ → ℕ
@@ -39,3 +40,4 @@ counter_bits b gates refreshes d count =
 unfoldable pub total : Task → ℕ → ℕ → ℕ
 total (Present size iv) d n = counter_bits 64 (present_gates size) (present_key_gates size) d ((n + 7) / 8)
 total (Lea size iv) d n = counter_bits 128 (lea_gates size) (lea_key_gates size) d ((n + 15) / 16)
+total (Trivium iv) d n = stream_bits d ((n + 7) / 8)
