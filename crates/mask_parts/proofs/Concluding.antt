@@ -16,7 +16,7 @@ use Rattle.mask_parts.specs.Fences.{with_fence}
 use Rattle.mask_parts.proofs.Counting.{size-with_fence}
 use Rattle.mask_parts.proofs.Fencing.{IsStrong-fence, IsWellFormed-fence, plain-with_fence}
 use Rattle.mask_parts.proofs.Growing.{Grows-trans, Grows-with_gates, Grows-with_outputs}
-use Rattle.mask_parts.proofs.Passing.{AreOf, AreOf-ready, IsSound, IsReady}
+use Rattle.mask_parts.proofs.Passing.{AreOf, IsSound}
 
 -- a tidy draft with a fence is strong
 pub IsStrong-tidy_fence : (c : Netlist) (us : List ℕ) → AreGates c.inputs c.gates → All (λ u. u < value_count c) us → c.outputs ≡ [] → IsTidy c → IsStrong (with_fence c us)
@@ -45,23 +45,20 @@ pub Grows-fence : (c : Netlist) (us : List ℕ) → Grows c (with_fence c us)
 unfolding with_fence
 Grows-fence c us = Grows-trans _ _ _ (Grows-with_gates c _) (Grows-with_outputs _ _)
 
--- a draft that hands out nothing yet, and values of it that may be handed out
+-- a draft that hands out nothing yet, and values of it that are to be handed out
 pub record IsDone (T : Type 0) (c : Netlist) (us : List ℕ) : Type 0 where
   pub sound : IsSound T c
   pub none : c.outputs ≡ []
-  pub ready : All (IsReady T c) us
+  pub known : AreOf c us
 
 module _ (c : Netlist) (us : List ℕ) (done : IsDone Unit c us) where
-  known : AreOf c us
-  known = AreOf-ready Unit c us done.ready
-
   pub IsStrong-done : IsStrong (with_fence c us)
-  IsStrong-done = IsStrong-tidy_fence c us done.sound.formed known done.none (done.sound.tidy tt)
+  IsStrong-done = IsStrong-tidy_fence c us done.sound.formed done.known done.none (done.sound.tidy tt)
 
   plain-done : (x : List Bool) → length x ≡ c.inputs → plain (with_fence c us) x ≡ bits_of c x us
   plain-done x long =
       let none : plain c x ≡ [] = ap (map (value_at (plain_values c x))) done.none in
-      plain-with_fence c us done.sound.formed known x long (rw done.none (All-nil (λ u. u < value_count c))) ∙ rw none refl
+      plain-with_fence c us done.sound.formed done.known x long (rw done.none (All-nil (λ u. u < value_count c))) ∙ rw none refl
 
   -- behind a fence it meets the contract of a cipher's circuit
   pub IsCipherCircuit-done : (size : Size) (f : List Bool → List Bool) → size_of (with_fence c us) ≡ size → IsWithinLimits (with_fence c us)
@@ -69,7 +66,7 @@ module _ (c : Netlist) (us : List ℕ) (done : IsDone Unit c us) where
   IsCipherCircuit-done size f sized limits computes =
       let inputs : (with_fence c us).inputs ≡ c.inputs = unfold size_of in ap (λ (s : Size). s.inputs) (size-with_fence c us done.none) in
       IsCipherCircuit-strong (with_fence c us) size f (with_fence c us) refl
-      (record { formed = IsWellFormed-fence c us done.sound.formed known done.none; few_values = limits.values; few_outputs = limits.outputs })
+      (record { formed = IsWellFormed-fence c us done.sound.formed done.known done.none; few_values = limits.values; few_outputs = limits.outputs })
       sized IsStrong-done (λ x long. plain-done x (long ∙ inputs) ∙ computes x (long ∙ inputs))
 
 -- n bits are the lowest ones of their number

@@ -31,7 +31,7 @@ pub record HasRun {S : Type 0} (draft : S → Netlist) (f : ℕ → S → S) (be
   pub within : IsWithinLimits (draft now)
   pub is : now ≡ in_turn f i before
 
-module _ {S : Type 0} (draft : S → Netlist) (f : ℕ → S → S) where
+module _ {S : Type 0} {draft : S → Netlist} (f : ℕ → S → S) where
   pub HasRun-none : (before : S) → IsWithinLimits (draft before) → HasRun draft f before before 0
   unfolding in_turn
   HasRun-none before within = record { within = within; is = refl }

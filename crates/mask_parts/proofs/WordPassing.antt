@@ -1,5 +1,5 @@
 -- Words on drafts: which may be taken, and what the parts on two words keep.
-use Rattle.std.proofs.Common.{◌≡◌, ℕ, ◌+◌, ◌<◌, true, List, [], ◌++◌, length, map, replicate, All, refl, sym, ◌∙◌}
+use Rattle.std.proofs.Common.{◌≡◌, ℕ, ◌<◌, true, List, [], ◌++◌, length, map, replicate, All, refl, sym, ◌∙◌}
 use Rattle.std.specs.List.{range_with_len}
 use Rattle.std.proofs.lemmas.List.Elements.{All-append, All-get_or, All-weaker}
 use Rattle.mask_circuit.specs.Netlist.{Netlist, value_count}

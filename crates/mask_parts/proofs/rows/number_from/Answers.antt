@@ -1,4 +1,4 @@
-use Rattle.std.proofs.Common.{ℕ, ◌+◌, length, ◌∙◌, arith}
+use Rattle.std.proofs.Common.{◌+◌, length, ◌∙◌, arith}
 use Rattle.std.proofs.lemmas.List.FromFn.{fill_by_all}
 use Rattle.mask_parts.proofs.Ranges.{map-range}
 use Rattle.mask_parts.proofs.rows.number_from.Goals as goal
