@@ -7,9 +7,9 @@ use Rattle.std.proofs.lemmas.Nat.{div-mul-add, mod-mul-add, xor_block}
 use Rattle.mask_bits.specs.Reading.{number}
 use Rattle.mask_bits.proofs.Numbers.{number-append, number-lt}
 use Rattle.mask_circuit.specs.Value.{xor, value_at}
+use Rattle.mask_parts.proofs.Ranges.{elements}
 use Rattle.mask_parts.proofs.WordNumbers.{number-xor}
 use Rattle.mask_chaskey.specs.Chaskey.{doubled}
-use Rattle.mask_chaskey.proofs.BlockNumbers.{elements}
 
 -- what falls out is the top bit
 doubled-parts : (low : ℕ) (top : Bool) → low < 2 ^ 127 → doubled (low + 2 ^ 127 * (if top then 1 else 0)) ≡ bit_xor (2 * low) (if top then 0x87 else 0)

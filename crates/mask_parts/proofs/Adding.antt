@@ -195,7 +195,7 @@ usable_results : are_usable (part_usable sum32_steps) (map sum_place (range_with
 unfolding sum32_steps
 usable_results = refl
 
-results_from : (n : ℕ) → map (λ k. n + k) (map sum_place (range_with_len 0 32)) ≡ sum32_results n
+pub results_from : (n : ℕ) → map (λ k. n + k) (map sum_place (range_with_len 0 32)) ≡ sum32_results n
 unfolding sum32_results
 results_from n = refl
 

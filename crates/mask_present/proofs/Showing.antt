@@ -10,46 +10,25 @@ use Rattle.mask_circuit.specs.Netlist.{Netlist, value_count}
 use Rattle.mask_circuit.specs.Value.{xor, value_at}
 use Rattle.mask_parts.specs.Drafts.{with_gates, with_outputs, Grows}
 use Rattle.mask_parts.specs.PresentSbox.{sbox, sbox_gates, sbox_results, with_sbox}
+use Rattle.mask_parts.specs.Rows.{xor_gates, xor_bits}
+use Rattle.mask_parts.proofs.NumberParts.{number-xor_bits, number-take, number-drop}
 use Rattle.mask_parts.proofs.Substituting.{length-sbox_gates, sbox-solved}
-use Rattle.mask_parts.proofs.Solving.{Solves, Solves-left, Solves-right}
+use Rattle.mask_parts.proofs.Solving.{Solves, Solves-left, Solves-right, Solved, Solved-with_gates, Solved-Grows}
+use Rattle.mask_parts.proofs.WordShowing.{shown}
+use Rattle.mask_parts.proofs.XorRows.{bits-xors}
 use Rattle.mask_present.specs.Present.{Register, substituted, permuted, round_key, rotated, replaced, updated, register_after, block_after, encrypted}
-use Rattle.mask_present.specs.Rounds.{Stage, xor_gates, xored, sboxes, sboxes_results, source, moved, with_stretch, not_gates, not_results, counter_values, key_added, block_substituted, block_moved, key_rotated, key_replaced, key_counted, key_updated, block_round, stage_after, rounds}
+use Rattle.mask_present.specs.Rounds.{Stage, xored, sboxes, sboxes_results, source, moved, with_stretch, not_gates, not_results, counter_values, key_added, block_substituted, block_moved, key_rotated, key_replaced, key_counted, key_updated, block_round, stage_after, rounds}
 use Rattle.mask_present.proofs.Fitting.{IsShape, AllWithin, Fits, length-sbox_results, length-not_results, length-counter_values, Fits-key_added, Fits-block_substituted, Fits-block_moved, Fits-key_rotated, Fits-key_replaced, Fits-key_counted}
 use Rattle.mask_present.proofs.Lengthening.{Lengthens-block_substituted, Lengthens-nibbles, Lengthens-key_counted, Lengthens-key_updated, Lengthens-block_round, Lengthens-rounds}
-use Rattle.mask_present.proofs.NumberLaws.{xor_bits, number-xor_bits, number-take, number-drop, number-rotated, number-stretch, number-xor_stretch}
+use Rattle.mask_present.proofs.NumberLaws.{number-rotated, number-stretch, number-xor_stretch}
 use Rattle.mask_present.proofs.Permuting.{source-lt, permuted-number}
 
--- the bits vs solve all gates of the draft
-abbrev pub Solved : List Bool → Netlist → Type 0
-Solved vs c = Solves vs c.inputs c.gates
-
-pub Solved-with_gates : (vs : List Bool) (c : Netlist) (gs : List Gate) → Solved vs (with_gates c gs) → Solved vs c × Solves vs (value_count c) gs
-unfolding with_gates
-Solved-with_gates vs c gs solved = (Solves-left vs c.inputs c.gates gs solved, Solves-right vs c.inputs c.gates gs solved)
-
-pub Solved-Grows : (vs : List Bool) (c d : Netlist) → Grows c d → Solved vs d → Solved vs c
-unfolding with_outputs
-Solved-Grows vs c d grows solved = (Solved-with_gates vs c grows.gates (rw grows.grown at solved)).0
-
--- the number that values stand for
-abbrev pub shown : List Bool → List ℕ → ℕ
-shown vs us = number (map (value_at vs) us)
-
 -- LAYERS
-
-xor_gates-solved : (vs : List Bool) (n : ℕ) (us ws : List ℕ) → length us ≡ length ws → Solves vs n (xor_gates us ws)
-    → map (value_at vs) (range_with_len n (length us)) ≡ xor_bits (map (value_at vs) us) (map (value_at vs) ws)
-unfolding xor_gates
-xor_gates-solved vs n [] ws same solved = refl
-xor_gates-solved vs n (u ∷ us) [] same solved = absurd (omega arith)
-xor_gates-solved vs n (u ∷ us) (w ∷ ws) same solved =
-    let rest = xor_gates-solved vs (suc n) us ws (omega arith) solved.1 in
-    rw (add-one n, solved.0, rest) refl
 
 pub shown-xor_gates : (vs : List Bool) (n k : ℕ) (us ws : List ℕ) → length us ≡ k → length ws ≡ k → Solves vs n (xor_gates us ws)
     → shown vs (range_with_len n k) ≡ bit_xor (shown vs us) (shown vs ws)
 shown-xor_gates vs n k us ws long long' solved =
-    let bits = xor_gates-solved vs n us ws (long ∙ sym long') solved in
+    let bits = bits-xors vs n us ws (long ∙ sym long') solved in
     ap (λ m. shown vs (range_with_len n m)) (sym long) ∙ ap number bits
     ∙ number-xor_bits (map (value_at vs) us) (map (value_at vs) ws) (length-map us _ ∙ long ∙ sym long' ∙ sym (length-map ws _))
 
@@ -106,7 +85,7 @@ xor-false false = refl
 
 not_gates-solved : (vs : List Bool) (n : ℕ) (bs : List Bool) (us : List ℕ) → length bs ≡ length us → Solves vs n (not_gates bs us)
     → map (value_at vs) (not_results n bs us) ≡ xor_bits (map (value_at vs) us) bs
-unfolding not_gates not_results
+unfolding not_gates not_results xor_bits
 not_gates-solved vs n [] [] same solved = refl
 not_gates-solved vs n [] (u ∷ us) same solved = absurd (omega arith)
 not_gates-solved vs n (b ∷ bs) [] same solved = refl

@@ -2,9 +2,9 @@
 use Rattle.std.proofs.Common.{◌≡◌, ℕ, Bool, true, List, [], ◌∷◌, length, map, replicate, refl}
 use Rattle.mask_circuit.specs.Value.{value_at}
 use Rattle.mask_parts.specs.Tables.{part_gates, part_usable, is_part, part_bits}
+use Rattle.mask_parts.proofs.Counting.{Counts}
 use Rattle.mask_trivium.specs.Clocks.{Clock, setup, stream, setup_steps, stream_steps}
 use Rattle.mask_trivium.specs.Trivium.{output, next_first, next_second, next_third}
-use Rattle.mask_trivium.proofs.Counting.{Counts}
 
 -- The table has v gates and computes a clock. On a state, the bits that it outputs are those that out gives.
 pub record IsClock (k : Clock) (v : ℕ) (out : List Bool → List Bool) : Type 0 where

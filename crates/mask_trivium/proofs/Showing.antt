@@ -8,24 +8,12 @@ use Rattle.mask_circuit.specs.Value.{value_at}
 use Rattle.mask_parts.specs.Drafts.{with_gates, with_outputs, Grows}
 use Rattle.mask_parts.specs.Tables.{part_usable, part_bits, is_part, with_part}
 use Rattle.mask_parts.proofs.PartGates.{usable-within, part_bits-solved}
-use Rattle.mask_parts.proofs.Solving.{Solves, Solves-left, Solves-right}
+use Rattle.mask_parts.proofs.Solving.{Solves, Solves-left, Solves-right, Solved, Solved-with_gates, Solved-Grows}
 use Rattle.mask_trivium.specs.Clocks.{Clock, Stage, stream, with_clock, with_clocks}
 use Rattle.mask_trivium.specs.Trivium.{clocked, clocks, outputs, output, next_first, next_second, next_third}
 use Rattle.mask_trivium.proofs.Clocking.{IsClock, IsClock-stream}
 use Rattle.mask_trivium.proofs.Running.{Grows-clocks, length-state}
 use Rattle.mask_trivium.proofs.Shifting.{map-shifted, shifted-same}
-
--- the bits vs solve all gates of the draft
-abbrev pub Solved : List Bool → Netlist → Type 0
-Solved vs c = Solves vs c.inputs c.gates
-
-pub Solved-with_gates : (vs : List Bool) (c : Netlist) (gs : List Gate) → Solved vs (with_gates c gs) → Solved vs c × Solves vs (value_count c) gs
-unfolding with_gates
-Solved-with_gates vs c gs solved = (Solves-left vs c.inputs c.gates gs solved, Solves-right vs c.inputs c.gates gs solved)
-
-pub Solved-Grows : (vs : List Bool) (c d : Netlist) → Grows c d → Solved vs d → Solved vs c
-unfolding with_outputs
-Solved-Grows vs c d grows solved = (Solved-with_gates vs c grows.gates (rw grows.grown at solved)).0
 
 -- the bits that values stand for
 abbrev pub shown : List Bool → List ℕ → List Bool

@@ -8,17 +8,21 @@ use Rattle.mask_circuit.specs.Netlist.{Netlist, AreGates, value_count}
 use Rattle.mask_circuit.specs.Value.{value_at}
 use Rattle.mask_circuit.specs.Acceptance.{IsTidy}
 use Rattle.mask_parts.specs.declared.tables.Step.{Step}
-use Rattle.mask_parts.specs.Drafts.{Grows}
+use Rattle.mask_parts.specs.Drafts.{with_gates, with_outputs, Grows}
 use Rattle.mask_parts.specs.Tables.{part_gates, part_usable, is_part, with_part}
 use Rattle.mask_parts.specs.Tidiness.{IsFree, KeepsTidy}
-use Rattle.mask_parts.proofs.Growing.{value_count-with_gates, Grows-refl, Grows-trans, Grows-with_gates, AreGates-with_gates}
+use Rattle.mask_parts.proofs.Counting.{Counts, Adds, Adds-refl, Adds-trans, Adds-with_gates}
+use Rattle.mask_parts.proofs.Growing.{value_count-with_gates, value_count-Grows, Grows-refl, Grows-trans, Grows-with_gates, AreGates-left, AreGates-with_gates}
 use Rattle.mask_parts.proofs.PartGates.{usable-within, AreGates-part, length-part_gates}
 use Rattle.mask_parts.proofs.PartTidiness.{KeepsTidy-part}
-use Rattle.mask_chaskey.proofs.Counting.{Counts, Adds, Adds-refl, Adds-trans, Adds-with_gates}
 
 -- the gates of the draft take earlier values
 abbrev pub Formed : Netlist → Type 0
 Formed c = AreGates c.inputs c.gates
+
+pub Formed-Grows : (c d : Netlist) → Grows c d → Formed d → Formed c
+unfolding with_gates with_outputs
+Formed-Grows c d grows formed = AreGates-left c.inputs c.gates grows.gates (rw grows.grown at formed)
 
 pub record IsSound (T : Type 0) (c : Netlist) : Type 0 where
   pub formed : Formed c
@@ -28,11 +32,6 @@ pub record IsSound (T : Type 0) (c : Netlist) : Type 0 where
 pub record IsReady (T : Type 0) (c : Netlist) (u : ℕ) : Type 0 where
   pub below : u < value_count c
   pub free : T → IsFree c u
-
--- these are the values of a word that further gates may take
-pub record IsWord (T : Type 0) (c : Netlist) (w : List ℕ) : Type 0 where
-  pub long : length w ≡ 32
-  pub ready : All (IsReady T c) w
 
 -- the draft d is sound and has v values more than c, of which p are products and p refreshes
 pub record Passes (T : Type 0) (c d : Netlist) (v p : ℕ) : Type 0 where
@@ -56,17 +55,31 @@ Passes-trans T c d e v p w q one two = record {
 pub Passes-as : (T : Type 0) (c d : Netlist) (v p w q : ℕ) → v ≡ w → p ≡ q → Passes T c d v p → Passes T c d w q
 Passes-as T c d v p w q same same' passes = rw (sym same, sym same') passes
 
-pub IsWord-later : (T : Type 0) (c d : Netlist) (v p : ℕ) (w : List ℕ) → Passes T c d v p → IsWord T c w → IsWord T d w
-IsWord-later T c d v p w passes is = record { long = is.long; ready = All-weaker (IsReady T c) (IsReady T d) passes.kept w is.ready }
+pub All-later : (T : Type 0) (c d : Netlist) (v p : ℕ) (us : List ℕ) → Passes T c d v p → All (IsReady T c) us → All (IsReady T d) us
+All-later T c d v p us passes all = All-weaker (IsReady T c) (IsReady T d) passes.kept us all
+
+-- VALUES OF A DRAFT
+
+-- these are values of the draft
+abbrev pub AreOf : Netlist → List ℕ → Type 0
+AreOf c us = All (λ u. u < value_count c) us
+
+pub AreOf-ready : (T : Type 0) (c : Netlist) (us : List ℕ) → All (IsReady T c) us → AreOf c us
+AreOf-ready T c us ready = All-weaker (IsReady T c) (λ u. u < value_count c) (λ u r. r.below) us ready
+
+pub ready-known : (c : Netlist) (us : List ℕ) → AreOf c us → All (IsReady ⊥ c) us
+ready-known c us known = All-weaker (λ u. u < value_count c) (IsReady ⊥ c) (λ u low. record { below = low; free = λ none. absurd none }) us known
+
+pub AreOf-Grows : (c d : Netlist) (us : List ℕ) → Grows c d → AreOf c us → AreOf d us
+AreOf-Grows c d us grows known =
+    let more = value_count-Grows c d grows in
+    All-weaker (λ u. u < value_count c) (λ u. u < value_count d) (λ u low. omega arith) us known
 
 -- PARTS
 
 module _ (T : Type 0) (c : Netlist) (xs : List ℕ) (ss : List Step) (sound : IsSound T c) (ready : All (IsReady T c) xs) (part : is_part (length xs) ss ≡ true) where
-  below : All (λ u. u < value_count c) xs
-  below = All-weaker (IsReady T c) (λ u. u < value_count c) (λ u r. r.below) xs ready
-
   tidied : T → KeepsTidy c (with_part c xs ss) [] × ((k : ℕ) → value_at (part_usable ss) k ≡ true → IsFree (with_part c xs ss) (value_count c + k))
-  tidied t = KeepsTidy-part c xs ss sound.formed below part (sound.tidy t) (All-weaker (IsReady T c) (IsFree c) (λ u r. r.free t) xs ready)
+  tidied t = KeepsTidy-part c xs ss sound.formed (AreOf-ready T c xs ready) part (sound.tidy t) (All-weaker (IsReady T c) (IsFree c) (λ u r. r.free t) xs ready)
 
   pub Passes-part : (v p : ℕ) → Counts (part_gates (value_count c) xs ss) v p → Passes T c (with_part c xs ss) v p
   Passes-part v p counts =
@@ -75,7 +88,7 @@ module _ (T : Type 0) (c : Netlist) (xs : List ℕ) (ss : List Step) (sound : Is
       record {
         grows = unfold with_part in Grows-with_gates c _;
         sound = record {
-          formed = unfold with_part in AreGates-with_gates c _ sound.formed (AreGates-part (value_count c) xs ss below part);
+          formed = unfold with_part in AreGates-with_gates c _ sound.formed (AreGates-part (value_count c) xs ss (AreOf-ready T c xs ready) part);
           tidy = λ t. (tidied t).0.tidy;
         };
         adds = adds;
