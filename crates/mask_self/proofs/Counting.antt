@@ -5,10 +5,11 @@ use Rattle.std.proofs.Math.Nat.{mul-le-mul_right}
 use Rattle.mask_circuit.proofs.Places.{length-each}
 use Rattle.mask_tasks.specs.declared.tasks.Task.{Task}
 use Rattle.mask_tasks.specs.declared.tasks.Task.TheVariants.{Present, Lea}
+use Rattle.mask_parts.specs.CipherCircuits.{gate_bits}
 use Rattle.mask_modes.specs.CounterMode.{block_count}
 use Rattle.mask_modes.specs.Steps.{Mode, ahead_of, block_at, block_step, blocks, refresh_step, steps_from}
 use Rattle.mask_ciphers.specs.Tasks.{mode_of, plan}
-use Rattle.mask_ciphers.specs.Totals.{counter_bits, gate_bits, total}
+use Rattle.mask_ciphers.specs.Totals.{counter_bits, total}
 
 -- STEPS
 

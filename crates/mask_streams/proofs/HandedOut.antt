@@ -43,13 +43,13 @@ xor-swap true false = refl
 xor-swap false true = refl
 xor-swap false false = refl
 
-get_or-added : (xs ys : List Bool) (i : ℕ) → i < length xs → i < length ys →
+get_or-xor_bits : (xs ys : List Bool) (i : ℕ) → i < length xs → i < length ys →
     get_or (xor_bits xs ys) i false ≡ xor (get_or xs i false) (get_or ys i false)
 unfolding xor_bits
-get_or-added [] ys i lt lt' = absurd (omega arith)
-get_or-added (x ∷ xs) [] i lt lt' = absurd (omega arith)
-get_or-added (x ∷ xs) (y ∷ ys) zero lt lt' = refl
-get_or-added (x ∷ xs) (y ∷ ys) (suc i) lt lt' = get_or-added xs ys i (omega arith) (omega arith)
+get_or-xor_bits [] ys i lt lt' = absurd (omega arith)
+get_or-xor_bits (x ∷ xs) [] i lt lt' = absurd (omega arith)
+get_or-xor_bits (x ∷ xs) (y ∷ ys) zero lt lt' = refl
+get_or-xor_bits (x ∷ xs) (y ∷ ys) (suc i) lt lt' = get_or-xor_bits xs ys i (omega arith) (omega arith)
 
 get_or-xor_bytes : (xs ys : List ℕ) (k : ℕ) → k < length xs → k < length ys →
     get_or (xor_bytes xs ys) k 0 ≡ bit_xor (get_or xs k 0) (get_or ys k 0)
@@ -120,7 +120,7 @@ outputs_are_bits iv held n piece k p ten is few lt small =
     ∙ get_or-append_right (clocks 64 state) (xor_bits (outputs 64 state) (low block)) 288 (288 + (8 * k + p)) false size
     (omega arith)
     ∙ ap (λ (i : ℕ). get_or (xor_bits (outputs 64 state) (low block)) i false) place
-    ∙ get_or-added (outputs 64 state) (low block) (8 * k + p)
+    ∙ get_or-xor_bits (outputs 64 state) (low block) (8 * k + p)
     (omega (arith, length-outputs 64 state)) (omega (arith, length-low block))
     ∙ ap₂ xor
     (get_or-outputs (8 * length piece) 64 state (8 * k + p) (omega arith) (omega arith)
