@@ -9,6 +9,7 @@ use Rattle.mask_bits.proofs.Numbers.{bit-number}
 use Rattle.mask_circuit.specs.Value.{xor}
 use Rattle.mask_circuit.specs.Wires.{each}
 use Rattle.mask_laws.proofs.Bits.{xor_of_digits}
+use Rattle.mask_parts.specs.Rows.{xor_bits}
 use Rattle.mask_trivium.specs.Trivium.{bytes, clocks, keystream, outputs}
 use Rattle.mask_trace.specs.Steps.{Registers}
 use Rattle.mask_trace.specs.Values.{value_after}
@@ -16,7 +17,6 @@ use Rattle.mask_modes.specs.CounterMode.{block_count, xor_bytes}
 use Rattle.mask_modes.specs.Steps.{block_at, blocks}
 use Rattle.mask_modes.proofs.Blocks.{length-block_at}
 use Rattle.mask_modes.proofs.Xors.{xor_bytes-append}
-use Rattle.mask_parts.specs.Rows.{xor_bits}
 use Rattle.mask_streams.specs.Streams.{IsHeldBehind, ahead, state_at, steps_behind, stream_cipher, stream_step}
 use Rattle.mask_streams.specs.Laws.{OutputGoesOn, OutputsAreBits}
 use Rattle.mask_streams.proofs.Keystreams.{keystream-add, length-bytes, length-clocks, length-keystream, length-outputs, outputs-add}

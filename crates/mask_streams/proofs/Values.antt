@@ -10,6 +10,7 @@ use Rattle.mask_circuit.specs.Value.{plain, value_at}
 use Rattle.mask_circuit.specs.Wires.{each}
 use Rattle.mask_circuit.proofs.Places.{length-each}
 use Rattle.mask_shares.proofs.Lists.{each-get_or, each-same, map-each}
+use Rattle.mask_parts.specs.Rows.{xor_bits}
 use Rattle.mask_trivium.specs.Trivium.{clocks, outputs, started}
 use Rattle.mask_trivium.specs.NamedTrivium.{named_start, named_step, start_of_bits, step_of_bits}
 use Rattle.mask_trivium.proofs.Concluding.{IsCipherCircuit-named_start, IsCipherCircuit-named_step}
@@ -20,7 +21,6 @@ use Rattle.mask_trace.proofs.Beginnings.{value_after-append}
 use Rattle.mask_modes.specs.CounterMode.{block_count}
 use Rattle.mask_modes.specs.Steps.{block_at, blocks}
 use Rattle.mask_modes.proofs.Blocks.{blocks_are_long}
-use Rattle.mask_parts.specs.Rows.{xor_bits}
 use Rattle.mask_streams.specs.Streams.{IsHeldBehind, ahead, start_step, state_at, steps_behind, stream_step, with_key}
 use Rattle.mask_streams.specs.Laws.{RegistersGoOn}
 use Rattle.mask_streams.proofs.Keystreams.{length-clocks, length-started}
