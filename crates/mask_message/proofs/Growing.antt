@@ -9,7 +9,6 @@ use Rattle.mask_keys.specs.Lines.{joined, line_length}
 use Rattle.mask_trace.specs.Steps.{Registers, Step}
 use Rattle.mask_trace.specs.Values.{value_after, values_of}
 use Rattle.mask_trace.specs.Drawing.{Stand, Ran}
-use Rattle.mask_trace.proofs.Beginnings.{value_after-append}
 use Rattle.mask_trace.proofs.Drawing.{runs_join}
 use Rattle.mask_ciphers.specs.Methods.{AreBatches, fed_steps, next_gates, run_gates}
 use Rattle.mask_ciphers.specs.Methods as methods
@@ -32,6 +31,14 @@ batches-more task n k whole all =
 pub room-smaller : (task : Task) (fed fed' n : ℕ) → fed' ≡ fed + n → fed + n ≤ longest_message task → n ≡ batch_length task →
     longest_message task - fed' < longest_message task - fed
 room-smaller task fed fed' n is within all = omega (arith, some_batch task)
+
+-- STEPS
+
+-- what is held behind steps and more steps
+value_after-append : (held : Registers Bool) (ss ts : List Step) → value_after held (ss ++ ts) ≡ value_after (value_after held ss) ts
+unfolding value_after
+value_after-append held [] ts = refl
+value_after-append held (s ∷ ss) ts = value_after-append _ ss ts
 
 -- RUNS
 
