@@ -14,11 +14,6 @@ use Rattle.mask_chaskey.specs.Rounds.{Stage, stage}
 use Rattle.mask_chaskey.proofs.Lengthening.{Lengthens}
 use Rattle.mask_chaskey.proofs.Running.{IsFine}
 
--- VALUES OF A DRAFT
-
-pub AreOf-sum32 : (c : Netlist) (x y : List ℕ) → AreOf (with_sum32 c x y) (sum32_results (value_count c))
-AreOf-sum32 c x y = rw (value_count-with_sum32 c x y) (sum32_results-below (value_count c))
-
 -- STAGES
 
 -- a stage of words of a draft

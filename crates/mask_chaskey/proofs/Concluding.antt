@@ -71,10 +71,6 @@ module _ (n : ℕ) (s : Stage) (v p : ℕ) (out : CameOut n s v p) where
       let values = adds.values in let products = adds.products in let refreshes = adds.refreshes in let long = us-long in
       size-with_fence s.draft us done.none ∙ same_size _ _ ins us-long (omega arith) (omega arith) (omega arith)
 
-  pub IsStrong-fenced : IsStrong (fenced s)
-  unfolding fenced
-  IsStrong-fenced = IsStrong-done s.draft us done
-
   -- its plain values solve the stage's gates, and its outputs are the bits of the block's number
   pub solved-plain : (x : List Bool) → length x ≡ n → Solved (plain_values s.draft x) s.draft
   solved-plain x long = Solves-all s.draft x (long ∙ sym ins) (out.fine ⊥).sound.formed
@@ -150,10 +146,6 @@ number-step_of_bits x long = rw (sym (step_computes x long)) (number-fenced 256 
 pub size-named_step : size_of named_step ≡ size_step
 unfolding named_step
 size-named_step = size-fenced 256 step_stage _ _ CameOut-step
-
-pub IsStrong-named_step : IsStrong named_step
-unfolding named_step
-IsStrong-named_step = IsStrong-fenced 256 step_stage _ _ CameOut-step
 
 pub IsWithinLimits-named_step : IsWithinLimits named_step
 IsWithinLimits-named_step = IsWithinLimits-sized named_step size_step size-named_step (lit≤ tt) (lit≤ tt)
@@ -287,10 +279,6 @@ pub size-named_end : (end : End) → size_of (named_end end) ≡ size_end end
 unfolding named_end
 size-named_end Whole = size-fenced 384 (end_stage Whole) _ _ (CameOut-end Whole)
 size-named_end Short = size-fenced 384 (end_stage Short) _ _ (CameOut-end Short)
-
-pub IsStrong-named_end : (end : End) → IsStrong (named_end end)
-unfolding named_end
-IsStrong-named_end end = IsStrong-fenced 384 (end_stage end) _ _ (CameOut-end end)
 
 pub IsWithinLimits-named_end : (end : End) → IsWithinLimits (named_end end)
 IsWithinLimits-named_end Whole = IsWithinLimits-sized (named_end Whole) (size_end Whole) (size-named_end Whole) (lit≤ tt) (lit≤ tt)

@@ -16,12 +16,6 @@ use Rattle.mask_lea.specs.Rounds.{Stage, stage, constant_word, with_word_updated
 use Rattle.mask_lea.proofs.Lengthening.{Lengthens-key_updated, Lengthens-block_mixed}
 use Rattle.mask_lea.proofs.Running.{IsShape, IsShape-schedule, place-lt, IsFine, Runs-key_updated, All-round_words}
 
--- VALUES OF A DRAFT
-
-pub AreOf-xor32 : (c : Netlist) (x y : List ℕ) → AreOf (with_xor32 c x y) (xor32_results (value_count c))
-unfolding xor32_results
-AreOf-xor32 c x y = All-range (λ u. u < value_count (with_xor32 c x y)) (value_count c) 32 (λ u low high. let count = value_count-with_xor32 c x y in omega arith)
-
 -- STAGES
 
 -- a stage of values of a draft

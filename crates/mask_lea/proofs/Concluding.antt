@@ -111,10 +111,6 @@ module _ (r : Schedule) (shape : IsShape r) where
       size-with_fence (encrypted_message r) sums no_outputs
       ∙ same_size _ _ inputs-message long (omega arith) (omega arith) (omega arith)
 
-  pub IsStrong-named_of : IsStrong (named_of r)
-  unfolding named_of
-  IsStrong-named_of = IsStrong-done (encrypted_message r) sums (done Unit)
-
   -- WHAT THEY COMPUTE
 
   solved-blocks : (vs : List Bool) → Solved vs (encrypted_message r) → Solved vs (with_blocks_xored end.draft end.block messages)
@@ -180,10 +176,6 @@ pub IsWithinLimits-named : (size : LeaSize) → IsWithinLimits (named_lea size)
 IsWithinLimits-named K128 = IsWithinLimits-sized (named_lea K128) (size_lea K128) (size-named_lea K128) (lit≤ tt) (lit≤ tt)
 IsWithinLimits-named K192 = IsWithinLimits-sized (named_lea K192) (size_lea K192) (size-named_lea K192) (lit≤ tt) (lit≤ tt)
 IsWithinLimits-named K256 = IsWithinLimits-sized (named_lea K256) (size_lea K256) (size-named_lea K256) (lit≤ tt) (lit≤ tt)
-
-pub IsStrong-named_lea : (size : LeaSize) → IsStrong (named_lea size)
-unfolding named_lea
-IsStrong-named_lea size = IsStrong-named_of (schedule size) (IsShape-schedule size)
 
 -- so the named circuits meet the contract of a cipher's circuit
 pub IsCipherCircuit-named_lea : (size : LeaSize) → IsCipherCircuit (named_lea size) (size_lea size) (lea_of_bits size) (named_lea size)

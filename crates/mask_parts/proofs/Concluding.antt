@@ -40,9 +40,9 @@ IfOk-same a P (Ok s) same p = subst P (sym same) p
 IfOk-same a P (Err e) same p = tt
 
 -- so a circuit that is handed out meets the contract where the named one does
-pub IfOk-named : {E : Type 0} (named : Netlist) (size : Size) (f : List Bool → List Bool) (c : Netlist) (r : Result Netlist E) → c ≡ named → IfOk r (λ s. s ≡ c)
+pub IfOk-named : {E : Type 0} {named : Netlist} {size : Size} {f : List Bool → List Bool} (c : Netlist) (r : Result Netlist E) → c ≡ named → IfOk r (λ s. s ≡ c)
     → IsCipherCircuit named size f named → IfOk r (IsCipherCircuit named size f)
-IfOk-named named size f c r is same meets = IfOk-same c (IsCipherCircuit named size f) r same (subst (IsCipherCircuit named size f) (sym is) meets)
+IfOk-named {named = named} {size = size} {f = f} c r is same meets = IfOk-same c (IsCipherCircuit named size f) r same (subst (IsCipherCircuit named size f) (sym is) meets)
 
 -- FENCES
 

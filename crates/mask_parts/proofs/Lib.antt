@@ -1,6 +1,7 @@
 pub mod Adding
 pub mod Concluding
 pub mod Counting
+pub mod Drawing
 pub mod Fencing
 pub mod Growing
 pub mod Inputs

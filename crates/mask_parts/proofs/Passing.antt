@@ -3,6 +3,7 @@
 -- What is said of tidiness is said under a premise T. The calls know nothing of it, so there T is ⊥; the named circuits begin
 -- tidy, so there it is the unit. One induction serves both.
 use Rattle.std.proofs.Common.{◌≡◌, ℕ, ◌+◌, ◌<◌, Bool, true, List, [], ◌∷◌, length, map, replicate, drop, slice_index_or, All, ap, sym, ◌∙◌, arith}
+use Rattle.std.proofs.lemmas.Bool.{and_parts}
 use Rattle.std.proofs.lemmas.List.Elements.{All-nil, All-cons, All-weaker}
 use Rattle.mask_circuit.specs.Netlist.{Netlist, AreGates, value_count}
 use Rattle.mask_circuit.specs.Value.{value_at}
@@ -14,7 +15,7 @@ use Rattle.mask_parts.specs.Tidiness.{IsFree, KeepsTidy}
 use Rattle.mask_parts.proofs.Counting.{Counts, Adds, Adds-refl, Adds-trans, Adds-with_gates}
 use Rattle.mask_parts.proofs.Growing.{value_count-with_gates, value_count-Grows, Grows-refl, Grows-trans, Grows-with_gates, AreGates-left, AreGates-with_gates}
 use Rattle.mask_parts.proofs.PartGates.{usable-within, AreGates-part, length-part_gates}
-use Rattle.mask_parts.proofs.PartTidiness.{KeepsTidy-part}
+use Rattle.mask_parts.proofs.PartTidiness.{KeepsTidy-part, are_usable}
 
 -- the gates of the draft take earlier values
 abbrev pub Formed : Netlist → Type 0
@@ -108,9 +109,8 @@ module _ (T : Type 0) (c : Netlist) (xs : List ℕ) (ss : List Step) (sound : Is
   }
 
   -- several of them
-  pub All-ready-part : (ks : List ℕ) → map (value_at (part_usable ss)) ks ≡ replicate (length ks) true → All (IsReady T (with_part c xs ss)) (map (λ k. value_count c + k) ks)
+  pub All-ready-part : (ks : List ℕ) → are_usable (part_usable ss) ks ≡ true → All (IsReady T (with_part c xs ss)) (map (λ k. value_count c + k) ks)
   All-ready-part [] usable = All-nil (IsReady T (with_part c xs ss))
   All-ready-part (k ∷ ks) usable =
       All-cons (IsReady T (with_part c xs ss)) (value_count c + k) (map (λ i. value_count c + i) ks)
-      (IsReady-part k (ap (λ (bs : List Bool). slice_index_or bs 0 true) usable))
-      (All-ready-part ks (ap (λ (bs : List Bool). drop 1 bs) usable))
+      (IsReady-part k (and_parts _ _ usable).0) (All-ready-part ks (and_parts _ _ usable).1)

@@ -7,13 +7,13 @@ use Rattle.mask_circuit.specs.Value.{value_at}
 use Rattle.mask_parts.specs.Drafts.{Grows}
 use Rattle.mask_parts.specs.Tables.{part_gates, part_usable}
 use Rattle.mask_parts.specs.Words32.{xor32_steps, xor32_gates, with_xor32, xor32_results, sum32_steps, sum32_gates, with_sum32, sum_place, sum32_results, rotated32, constant32, word, AreWordsOf}
-use Rattle.mask_parts.proofs.Adding.{is_part-sum32, with_sum32-with_part, results_from}
+use Rattle.mask_parts.proofs.Adding.{is_part-sum32, with_sum32-with_part, usable-sum32, results_from}
 use Rattle.mask_parts.proofs.Counting.{Counts}
 use Rattle.mask_parts.proofs.Growing.{Grows-with_gates}
 use Rattle.mask_parts.proofs.Passing.{IsSound, IsReady, Passes, AreOf, AreOf-ready, ready-known, AreOf-Grows, Passes-part, All-ready-part}
-use Rattle.mask_parts.proofs.WordFitting.{length-xor32_results, length-sum32_results, length-rotated32, All-rotated32, length-constant32, All-constant32}
+use Rattle.mask_parts.proofs.WordFitting.{value_count-with_xor32, value_count-with_sum32, xor32_results-below, sum32_results-below, length-xor32_results, length-sum32_results, length-rotated32, All-rotated32, length-constant32, All-constant32}
 use Rattle.mask_parts.proofs.WordParts.{length-both}
-use Rattle.mask_parts.proofs.Xoring.{is_part-xor32, with_xor32-with_part, xor32_results-bits}
+use Rattle.mask_parts.proofs.Xoring.{is_part-xor32, with_xor32-with_part, usable-xor32, xor32_results-bits}
 
 -- WORDS
 
@@ -58,15 +58,6 @@ Counts-sum32 : (n : ℕ) (xs : List ℕ) → Counts (part_gates n xs sum32_steps
 unfolding sum32_steps
 Counts-sum32 n xs = record { gates = refl; products = refl; refreshes = refl }
 
--- the table lets these values be taken
-usable-xor32 : map (value_at (part_usable xor32_steps)) (range_with_len 0 32) ≡ replicate 32 true
-unfolding xor32_steps
-usable-xor32 = refl
-
-usable-sum32 : map (value_at (part_usable sum32_steps)) (map sum_place (range_with_len 0 32)) ≡ replicate 32 true
-unfolding sum32_steps
-usable-sum32 = refl
-
 -- PARTS
 
 pub Grows-xor32 : (c : Netlist) (x y : List ℕ) → Grows c (with_xor32 c x y)
@@ -76,6 +67,13 @@ Grows-xor32 c x y = Grows-with_gates c (xor32_gates (value_count c) x y)
 pub Grows-sum32 : (c : Netlist) (x y : List ℕ) → Grows c (with_sum32 c x y)
 unfolding with_sum32
 Grows-sum32 c x y = Grows-with_gates c (sum32_gates (value_count c) x y)
+
+-- their results are values of the draft
+pub AreOf-xor32 : (c : Netlist) (x y : List ℕ) → AreOf (with_xor32 c x y) (xor32_results (value_count c))
+AreOf-xor32 c x y = rw (value_count-with_xor32 c x y) (xor32_results-below (value_count c))
+
+pub AreOf-sum32 : (c : Netlist) (x y : List ℕ) → AreOf (with_sum32 c x y) (sum32_results (value_count c))
+AreOf-sum32 c x y = rw (value_count-with_sum32 c x y) (sum32_results-below (value_count c))
 
 module _ (T : Type 0) (c : Netlist) (x y : List ℕ) (sound : IsSound T c) (one : IsWord T c x) (two : IsWord T c y) where
   abbrev n : ℕ

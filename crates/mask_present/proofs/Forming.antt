@@ -154,10 +154,6 @@ done r shape =
       known = known-sums r shape;
     }
 
-pub IsStrong-named_present : (size : KeySize) → IsStrong (named_present size)
-unfolding named_present named_of
-IsStrong-named_present size = let r = register size in let shape = IsShape-register size in IsStrong-done (encrypted_message r) (sums r shape) (done r shape)
-
 -- so the named circuits meet the contract of a cipher's circuit
 pub IsCipherCircuit-named_present : (size : KeySize) → IsCipherCircuit (named_present size) (size_present size) (present_of_bits size) (named_present size)
 unfolding named_present named_of present_of_bits present

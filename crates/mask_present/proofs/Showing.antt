@@ -3,11 +3,14 @@ use Rattle.std.proofs.Common.{◌≡◌, ℕ, zero, suc, ◌+◌, ◌-◌, ◌*�
 use Rattle.std.specs.List.{range_with_len}
 use Rattle.std.proofs.Math.Nat.{mod-eq_of_lt}
 use Rattle.std.proofs.lemmas.List.{length-map, length-drop, length-take-le, map-append, take-map, drop-map, get_or-map}
+use Rattle.std.proofs.lemmas.Simd.{map-map}
 use Rattle.mask_bits.specs.Reading.{number, lowest}
 use Rattle.mask_bits.proofs.Numbers.{number-append, number-lowest, length-lowest}
 use Rattle.mask_circuit.specs.declared.gates.Gate.{Gate}
 use Rattle.mask_circuit.specs.Netlist.{Netlist, value_count}
 use Rattle.mask_circuit.specs.Value.{xor, value_at}
+use Rattle.mask_laws.proofs.Bits.{xor-false}
+use Rattle.mask_laws.proofs.Members.{map-same_in}
 use Rattle.mask_parts.specs.Drafts.{with_gates, with_outputs, Grows}
 use Rattle.mask_parts.specs.PresentSbox.{sbox, sbox_gates, sbox_results, with_sbox}
 use Rattle.mask_parts.specs.Rows.{xor_gates, xor_bits}
@@ -59,29 +62,17 @@ shown-sboxes vs (suc m) n us long solved =
     shown-append vs (sbox_results n) (sboxes_results m (n + 26))
     ∙ rw (length-sbox_results n, one, others, shown-take vs 4 us four, shown-drop vs 4 us four) refl
 
-map-same : {A B : Type 0} (f g : A → B) (xs : List A) → ((x : A) → f x ≡ g x) → map f xs ≡ map g xs
-map-same f g [] same = refl
-map-same f g (x ∷ xs) same = rw (same x, map-same f g xs same) refl
-
-map-map : {A B C : Type 0} (f : B → C) (g : A → B) (xs : List A) → map f (map g xs) ≡ map (λ x. f (g x)) xs
-map-map f g [] = refl
-map-map f g (x ∷ xs) = rw (map-map f g xs) refl
-
 pub shown-moved : (vs : List Bool) (us : List ℕ) → length us ≡ 64 → shown vs (moved us) ≡ permuted (shown vs us)
 unfolding moved
 shown-moved vs us long =
     let bit : (i : ℕ) → value_at vs (slice_index us (source i)) ≡ get_or (map (value_at vs) us) (source i) false =
     λ i. sym (get_or-map (value_at vs) us (source i) 0 false (let h = source-lt i in omega arith)) in
-    ap number (map-map (value_at vs) (λ i. slice_index us (source i)) (range_with_len 0 64) ∙ map-same _ _ (range_with_len 0 64) bit)
+    ap number (map-map (value_at vs) (λ i. slice_index us (source i)) (range_with_len 0 64) ∙ map-same_in _ _ (range_with_len 0 64) (λ i _. bit i))
     ∙ sym (permuted-number (map (value_at vs) us))
 
 xor-true : (b : Bool) → xor b true ≡ not b
 xor-true true = refl
 xor-true false = refl
-
-xor-false : (b : Bool) → xor b false ≡ b
-xor-false true = refl
-xor-false false = refl
 
 not_gates-solved : (vs : List Bool) (n : ℕ) (bs : List Bool) (us : List ℕ) → length bs ≡ length us → Solves vs n (not_gates bs us)
     → map (value_at vs) (not_results n bs us) ≡ xor_bits (map (value_at vs) us) bs

@@ -9,6 +9,7 @@ use Rattle.mask_bits.proofs.Numbers.{bit-number}
 use Rattle.mask_circuit.specs.Value.{xor}
 use Rattle.mask_circuit.specs.Wires.{each}
 use Rattle.mask_laws.proofs.Bits.{xor_of_digits}
+use Rattle.mask_parts.specs.Rows.{xor_bits}
 use Rattle.mask_trivium.specs.Trivium.{bytes, clocks, keystream, outputs}
 use Rattle.mask_trace.specs.Steps.{Registers}
 use Rattle.mask_trace.specs.Values.{value_after}
@@ -16,7 +17,6 @@ use Rattle.mask_modes.specs.CounterMode.{block_count, xor_bytes}
 use Rattle.mask_modes.specs.Steps.{block_at, blocks}
 use Rattle.mask_modes.proofs.Blocks.{length-block_at}
 use Rattle.mask_modes.proofs.Xors.{xor_bytes-append}
-use Rattle.mask_parts.specs.Rows.{xor_bits}
 use Rattle.mask_streams.specs.Streams.{IsHeldBehind, ahead, state_at, steps_behind, stream_cipher, stream_step}
 use Rattle.mask_streams.specs.Laws.{OutputGoesOn, OutputsAreBits}
 use Rattle.mask_streams.proofs.Keystreams.{keystream-add, length-bytes, length-clocks, length-keystream, length-outputs, outputs-add}
@@ -43,13 +43,13 @@ xor-swap true false = refl
 xor-swap false true = refl
 xor-swap false false = refl
 
-get_or-added : (xs ys : List Bool) (i : ℕ) → i < length xs → i < length ys →
+get_or-xor_bits : (xs ys : List Bool) (i : ℕ) → i < length xs → i < length ys →
     get_or (xor_bits xs ys) i false ≡ xor (get_or xs i false) (get_or ys i false)
 unfolding xor_bits
-get_or-added [] ys i lt lt' = absurd (omega arith)
-get_or-added (x ∷ xs) [] i lt lt' = absurd (omega arith)
-get_or-added (x ∷ xs) (y ∷ ys) zero lt lt' = refl
-get_or-added (x ∷ xs) (y ∷ ys) (suc i) lt lt' = get_or-added xs ys i (omega arith) (omega arith)
+get_or-xor_bits [] ys i lt lt' = absurd (omega arith)
+get_or-xor_bits (x ∷ xs) [] i lt lt' = absurd (omega arith)
+get_or-xor_bits (x ∷ xs) (y ∷ ys) zero lt lt' = refl
+get_or-xor_bits (x ∷ xs) (y ∷ ys) (suc i) lt lt' = get_or-xor_bits xs ys i (omega arith) (omega arith)
 
 get_or-xor_bytes : (xs ys : List ℕ) (k : ℕ) → k < length xs → k < length ys →
     get_or (xor_bytes xs ys) k 0 ≡ bit_xor (get_or xs k 0) (get_or ys k 0)
@@ -120,7 +120,7 @@ outputs_are_bits iv held n piece k p ten is few lt small =
     ∙ get_or-append_right (clocks 64 state) (xor_bits (outputs 64 state) (low block)) 288 (288 + (8 * k + p)) false size
     (omega arith)
     ∙ ap (λ (i : ℕ). get_or (xor_bits (outputs 64 state) (low block)) i false) place
-    ∙ get_or-added (outputs 64 state) (low block) (8 * k + p)
+    ∙ get_or-xor_bits (outputs 64 state) (low block) (8 * k + p)
     (omega (arith, length-outputs 64 state)) (omega (arith, length-low block))
     ∙ ap₂ xor
     (get_or-outputs (8 * length piece) 64 state (8 * k + p) (omega arith) (omega arith)

@@ -90,10 +90,6 @@ bits-set_up x long =
     shown-set_up vs solved
     ∙ ap (clocks 1152) (shown-start vs (Solved-Grows vs start.draft m Grows-set_up solved) ∙ ap₂ (loaded false true) key iv)
 
-pub IsStrong-named_start : IsStrong named_start
-unfolding named_start
-IsStrong-named_start = IsStrong-done set_up.draft set_up.state (done-start Unit)
-
 -- so it meets the contract of a cipher's circuit
 pub IsCipherCircuit-named_start : IsCipherCircuit named_start size_start start_of_bits named_start
 unfolding named_start
@@ -205,10 +201,6 @@ bits-encrypted x long =
     ∙ ap₂ ◌++◌ made.0
     (ap (λ (n : ℕ). shown vs (range_with_len (value_count streamed.draft) n)) (sym outputs-long)
     ∙ bits-xors vs (value_count streamed.draft) streamed.outputs message outputs-long solved.1 ∙ ap₂ xor_bits made.1 text)
-
-pub IsStrong-named_step : IsStrong named_step
-unfolding named_step
-IsStrong-named_step = IsStrong-done encrypted (streamed.state ++ results) (done-step Unit)
 
 pub IsCipherCircuit-named_step : IsCipherCircuit named_step size_step step_of_bits named_step
 unfolding named_step

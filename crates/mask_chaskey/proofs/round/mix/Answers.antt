@@ -5,9 +5,8 @@ use Rattle.mask_parts.proofs.Growing.{Grows-refl}
 use Rattle.mask_parts.proofs.Laying.{Lays-exit}
 use Rattle.mask_parts.proofs.Passing.{AreOf-Grows}
 use Rattle.mask_parts.proofs.WordFitting.{value_count-with_sum32, All-rotated32}
-use Rattle.mask_parts.proofs.WordPassing.{AreOf-word, Grows-xor32, Grows-sum32}
+use Rattle.mask_parts.proofs.WordPassing.{AreOf-word, Grows-xor32, Grows-sum32, AreOf-sum32}
 use Rattle.mask_chaskey.specs.Rounds.{stage, with_mixed}
-use Rattle.mask_chaskey.proofs.Calling.{AreOf-sum32}
 use Rattle.mask_chaskey.proofs.round.mix.Goals as goal
 
 -- the draft with the sum

@@ -5,9 +5,8 @@ use Rattle.mask_parts.proofs.Growing.{Grows-refl, Grows-trans}
 use Rattle.mask_parts.proofs.Laying.{Lays-exit, Lays-last}
 use Rattle.mask_parts.proofs.Passing.{AreOf-Grows}
 use Rattle.mask_parts.proofs.WordFitting.{value_count-with_xor32}
-use Rattle.mask_parts.proofs.WordPassing.{Grows-xor32, Grows-sum32}
+use Rattle.mask_parts.proofs.WordPassing.{Grows-xor32, Grows-sum32, AreOf-xor32}
 use Rattle.mask_lea.specs.Rounds.{with_mixed, mixed_results}
-use Rattle.mask_lea.proofs.Calling.{AreOf-xor32}
 use Rattle.mask_lea.proofs.round.mixed.Goals as goal
 
 pub returns-in_err-left : goal.returns-in_err-left

@@ -1,15 +1,11 @@
 use Rattle.std.proofs.Common.{sym, subst}
 use Rattle.mask_circuit.specs.Acceptance.{IsStrong}
 use Rattle.mask_parts.proofs.Concluding.{IfOk-named}
-use Rattle.mask_present.specs.NamedPresent.{named_present, size_present, present_of_bits}
-use Rattle.mask_present.proofs.Forming.{IsStrong-named_present, IsCipherCircuit-named_present}
+use Rattle.mask_present.proofs.Forming.{IsCipherCircuit-named_present}
 use Rattle.mask_present.proofs.circuits.present_circuit.Goals as goal
 
 pub strong_circuit-requires : goal.strong_circuit-requires
-strong_circuit-requires g c = subst IsStrong (sym c.in_ok-circuit.ensures) (IsStrong-named_present c.args.size)
+strong_circuit-requires g c = subst IsStrong (sym c.in_ok-circuit.ensures) (IsCipherCircuit-named_present c.args.size).strong
 
 pub returns-clause-circuit : goal.returns-clause-circuit
-returns-clause-circuit g c =
-    let size = c.args.size in
-    IfOk-named (named_present size) (size_present size) (present_of_bits size) c.in_ok-circuit.circuit c.strong_circuit.result c.in_ok-circuit.ensures
-    c.strong_circuit.ensures.same (IsCipherCircuit-named_present size)
+returns-clause-circuit g c = IfOk-named c.in_ok-circuit.circuit c.strong_circuit.result c.in_ok-circuit.ensures c.strong_circuit.ensures.same (IsCipherCircuit-named_present c.args.size)
