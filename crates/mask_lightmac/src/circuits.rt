@@ -23,12 +23,11 @@ fn lay_end(b: &mut Builder, size: KeySize) -> Result<(), CircuitError>
     let width = 8 * size.bytes() as usize;
     let mut inputs = [0; 256];
     number_from(&mut inputs, 0);
-    let sums = xor_blocks(
-        b,
-        &inputs[width..width + 64],
-        &inputs[width + 64..width + 128],
-    )?;
-    let encrypted = present_rounds(b, size, &inputs[..width], &sums)?;
+    let key = &inputs[..width];
+    let value = &inputs[width..width + 64];
+    let piece = &inputs[width + 64..width + 128];
+    let sums = xor_blocks(b, value, piece)?;
+    let encrypted = present_rounds(b, size, key, &sums)?;
     fence_outputs(b, &encrypted)
 }
 
