@@ -2,7 +2,7 @@
 --
 -- Keys, blocks and counters are big-endian numbers. A counter has s bytes, 1, 2 or 4, and a message is cut into pieces of
 -- 8 - s bytes. It has at most 2 ^ (8 * s) pieces, so that no counter comes twice.
-use Rattle.std.specs.Prelude.{ℕ, zero, suc, ◌+◌, ◌-◌, ◌*◌, ◌/◌, ◌%◌, List, [], ◌∷◌, ◌++◌, length, take, drop, replicate, bit_xor}
+use Rattle.std.specs.Prelude.{ℕ, zero, suc, ◌-◌, ◌*◌, ◌/◌, ◌%◌, List, [], ◌∷◌, ◌++◌, length, take, drop, replicate, bit_xor}
 use Rattle.mask_bits.specs.Reading.{high, number}
 use Rattle.mask_tasks.specs.declared.sizes.KeySize.{KeySize}
 use Rattle.mask_tasks.specs.Sizes.{present_bytes}
