@@ -133,19 +133,19 @@ Adds-rounds r s shape fits =
     (Adds-trans s.draft before.draft _ _ _ _ _ (Adds-stage_after r 31 s shape fits) (Adds-key_added r before shape (Fits-stage_after r 31 s shape fits)))
 
 -- 31 rounds of both sizes
-values_80 : values_of_rounds 1 31 ≡ 15766
+pub values_80 : values_of_rounds 1 31 ≡ 15766
 unfolding values_of_rounds ones
 values_80 = refl
 
-values_128 : values_of_rounds 2 31 ≡ 16572
+pub values_128 : values_of_rounds 2 31 ≡ 16572
 unfolding values_of_rounds ones
 values_128 = refl
 
-products_80 : products_of_rounds 1 31 ≡ 2635
+pub products_80 : products_of_rounds 1 31 ≡ 2635
 unfolding products_of_rounds
 products_80 = refl
 
-products_128 : products_of_rounds 2 31 ≡ 2790
+pub products_128 : products_of_rounds 2 31 ≡ 2790
 unfolding products_of_rounds
 products_128 = refl
 

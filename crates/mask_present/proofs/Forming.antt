@@ -50,9 +50,9 @@ AreGates-sboxes (suc k) n m us le long one =
 -- STAGES
 
 -- a stage with a formed draft whose values it knows
-record Sound (s : Stage) : Type 0 where
-  formed : Formed s.draft
-  known : Known s
+pub record Sound (s : Stage) : Type 0 where
+  pub formed : Formed s.draft
+  pub known : Known s
 
 Formed-key_added : (r : Register) (s : Stage) → Sound s → Formed (key_added r s).draft
 unfolding key_added xored
@@ -122,7 +122,7 @@ Formed-stage_after r (suc i) s shape fits sound =
       known = Known-block_round r t shape fits_t known;
     })
 
-Formed-rounds : (r : Register) (s : Stage) → IsShape r → Fits r s → Sound s → Formed (rounds r s).draft
+pub Formed-rounds : (r : Register) (s : Stage) → IsShape r → Fits r s → Sound s → Formed (rounds r s).draft
 unfolding rounds
 Formed-rounds r s shape fits sound =
     Formed-key_added r (stage_after r 31 s) (record {

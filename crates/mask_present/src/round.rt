@@ -11,7 +11,7 @@ use mask_circuit::{Builder, CircuitError};
 use mask_parts::{number_from, sbox4_present, xor_all};
 
 /// The XOR of two blocks.
-pub(crate) fn xor_blocks(b: &mut Builder, us: &[u32], vs: &[u32]) -> Result<[u32; 64], CircuitError>
+pub fn xor_blocks(b: &mut Builder, us: &[u32], vs: &[u32]) -> Result<[u32; 64], CircuitError>
     requires us_block { length us.now ≡ 64 }
     requires vs_block { length vs.now ≡ 64 }
     requires us_known { All (λ u. u < value_count b.old) us.now }
