@@ -12,7 +12,7 @@ use Rattle.mask_eval.specs.Evaluated.{coin_count}
 use Rattle.mask_eval.specs.Watching.{Told, Awaited, IsReadyFor, StaysReadyBehind, awaited}
 use Rattle.mask_trace.specs.Steps.{Registers, Step, stretch, bits_of}
 use Rattle.mask_trace.specs.Traces.{BitShares, output_shares}
-use Rattle.mask_trace.specs.Drawing.{Stand, Ran, RanPart}
+use Rattle.mask_trace.specs.Drawing.{Stand, Ran, RanPart, stand}
 use Rattle.mask_trace.proofs.Traces.{traces_split, bits_of-cons}
 use Rattle.mask_trace.proofs.Drawing.{runs_join, draws_join}
 use Rattle.mask_modes.specs.CounterMode.{block_count}
@@ -21,7 +21,7 @@ use Rattle.mask_modes.proofs.Batches.{batches_are_steps}
 use Rattle.mask_modes.proofs.BlockCounts.{le-block_count}
 use Rattle.mask_modes.proofs.TapeBits.{plain_bits-block}
 use Rattle.mask_counter.specs.Blocks.{IsBlockLength, reading}
-use Rattle.mask_counter.specs.Batches.{BatchRan, BatchStopped, Between, Encrypted, batch_steps, have, mode, stand}
+use Rattle.mask_counter.specs.Batches.{BatchRan, BatchStopped, Between, Encrypted, batch_steps, have, mode}
 use Rattle.mask_counter.specs.declared.words.BitOrder.{BitOrder}
 use Rattle.mask_counter.proofs.Evaluations.{few_blocks, order-is, with_shares}
 use Rattle.mask_counter.proofs.Turned.{length-ordered, reading_is}
