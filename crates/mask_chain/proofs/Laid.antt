@@ -1,6 +1,7 @@
 -- The shares of inputs that are laid source by source.
 use Rattle.std.proofs.Common.{◌≡◌, ℕ, zero, suc, pred, ◌+◌, ◌*◌, ◌<◌, ◌≤◌, Bool, List, [], ◌∷◌, ◌++◌, map, length, take, drop, get_or, All, refl, ap, ap₂, sym, ◌∙◌, arith, length-append, length-drop}
 use Rattle.std.proofs.lemmas.List.{map-append, take-map, drop-map, length-map, length-take-le, get_or-take, get_or-drop}
+use Rattle.std.proofs.lemmas.List.Elements.{All-head, All-tail}
 use Rattle.mask_bits.specs.Lanes.{lane}
 use Rattle.mask_circuit.specs.Wires.{each}
 use Rattle.mask_shares.proofs.Lists.{each-get_or, each-same}
@@ -84,7 +85,8 @@ module _ (N : ℕ) (key state : List (List ℕ)) where
   all_laid-lane [] r there = refl
   all_laid-lane (source ∷ sources) r there =
       map-append (lane 0) (laid N key state source) (all_laid N key state sources)
-      ∙ ap₂ (λ (xs ys : List BitShares). xs ++ ys) (laid-lane source r there.0) (all_laid-lane sources r there.1)
+      ∙ ap₂ (λ (xs ys : List BitShares). xs ++ ys) (laid-lane source r (All-head (IsThere (length key) (length state)) source sources there))
+      (all_laid-lane sources r (All-tail (IsThere (length key) (length state)) source sources there))
       ∙ sym (behind_none N (registers key state) (source_bits source) (input_bits sources) r (no_plain source))
 
   -- they are as many as the bits

@@ -34,7 +34,6 @@ pub struct ChainRun<const N: usize> {
 }
 
 impl<const N: usize> Model for ChainRun<N> {
-    ghost use Rattle.std.specs.Prelude.{◌×◌};
     ghost use Rattle.mask_trace.specs.Steps.{Registers};
     ghost use Rattle.mask_trace.specs.Traces.{BitShares};
     ghost use Rattle.mask_chain.specs.Chains.{AreShares, registers};
@@ -73,7 +72,7 @@ impl<const N: usize> ChainRun<N> {
         &mut self,
         alloc: Global,
         part: &mut Part<N>,
-        own: Evaluation,
+        own: &Evaluation,
         tape: &mut Tape,
         entropy: &mut E,
         watch: &mut W,
@@ -81,15 +80,15 @@ impl<const N: usize> ChainRun<N> {
     ) -> Result<(), TapeError>
         requires some { 2 ≤ N }
         requires few { N ≤ 8 }
-        requires suits { Suits (length self.old.key) (length self.old.state) part.old own }
+        requires suits { Suits (length self.old.key) (length self.old.state) part.old own.now }
         requires kept { length tape.old < 8 }
-        ensures ran { OnOk result (Ran N self.old (step part.old own ∷ []) self.new
+        ensures ran { OnOk result (Ran N self.old (step part.old own.now ∷ []) self.new
             (stand tape.old (E.left entropy.old) (W.told watch.old)) (stand tape.new (E.left entropy.new) (W.told watch.new))) }
         ensures wants { OnOk result (E.wanted entropy.new ≡ E.wanted entropy.old) }
         ensures steps { OnOk result (steps.new ≡ steps.old + length part.old.gates) }
 
         // Where the entropy fails, nothing was evaluated.
-        ensures stopped { IfErr result (λ e. e ≡ TapeError.Failed → Stopped N self.old self.new [] (step part.old own)
+        ensures stopped { IfErr result (λ e. e ≡ TapeError.Failed → Stopped N self.old self.new [] (step part.old own.now)
             (E.wanted entropy.new) steps.old steps.new
             (stand tape.old (E.left entropy.old) (W.told watch.old)) (stand tape.new (E.left entropy.new) (W.told watch.new))) }
         ensures no_memory { IfErr result (λ e. e ≡ TapeError.NoMemory → (self.new ≡ self.old) × (tape.new ≡ tape.old)
@@ -111,9 +110,9 @@ impl<const N: usize> ChainRun<N> {
         &mut self,
         alloc: Global,
         first: &mut Part<N>,
-        ahead: Evaluation,
+        ahead: &Evaluation,
         part: &mut Part<N>,
-        own: Evaluation,
+        own: &Evaluation,
         tape: &mut Tape,
         entropy: &mut E,
         watch: &mut W,
@@ -121,16 +120,16 @@ impl<const N: usize> ChainRun<N> {
     ) -> Result<(), TapeError>
         requires some { 2 ≤ N }
         requires few { N ≤ 8 }
-        requires ahead { Suits (length self.old.key) (length self.old.state) first.old ahead }
-        requires suits { Suits (length self.old.key) (state_after (keeps ahead.keep) first.old (length self.old.state)) part.old own }
+        requires ahead { Suits (length self.old.key) (length self.old.state) first.old ahead.now }
+        requires suits { Suits (length self.old.key) (state_after (keeps ahead.now.keep) first.old (length self.old.state)) part.old own.now }
         requires kept { length tape.old < 8 }
-        ensures ran { OnOk result (Ran N self.old (step first.old ahead ∷ step part.old own ∷ []) self.new
+        ensures ran { OnOk result (Ran N self.old (step first.old ahead.now ∷ step part.old own.now ∷ []) self.new
             (stand tape.old (E.left entropy.old) (W.told watch.old)) (stand tape.new (E.left entropy.new) (W.told watch.new))) }
         ensures wants { OnOk result (E.wanted entropy.new ≡ E.wanted entropy.old) }
         ensures steps { OnOk result (steps.new ≡ steps.old + (length first.old.gates + length part.old.gates)) }
 
         // Where the entropy fails, nothing was evaluated or the first circuit alone.
-        ensures stopped { IfErr result (λ e. e ≡ TapeError.Failed → Stopped N self.old self.new (step first.old ahead ∷ []) (step part.old own)
+        ensures stopped { IfErr result (λ e. e ≡ TapeError.Failed → Stopped N self.old self.new (step first.old ahead.now ∷ []) (step part.old own.now)
             (E.wanted entropy.new) steps.old steps.new
             (stand tape.old (E.left entropy.old) (W.told watch.old)) (stand tape.new (E.left entropy.new) (W.told watch.new))) }
         ensures no_memory { IfErr result (λ e. e ≡ TapeError.NoMemory → (self.new ≡ self.old) × (tape.new ≡ tape.old)
@@ -156,7 +155,7 @@ impl<const N: usize> ChainRun<N> {
     fn evaluate<E: Entropy, W: Watch, L: Ledger>(
         &mut self,
         part: &mut Part<N>,
-        own: Evaluation,
+        own: &Evaluation,
         room: Room<N>,
         tape: &mut Tape,
         entropy: &mut E,
@@ -165,15 +164,15 @@ impl<const N: usize> ChainRun<N> {
     ) -> Result<(), Failed>
         requires some { 2 ≤ N }
         requires few { N ≤ 8 }
-        requires suits { Suits (length self.old.key) (length self.old.state) part.old own }
-        requires coins { room.coins ≡ record { lanes = 1; bits = coin_count part.old N (length own.message.now) } }
+        requires suits { Suits (length self.old.key) (length self.old.state) part.old own.now }
+        requires coins { room.coins ≡ record { lanes = 1; bits = coin_count part.old N (length own.now.message.now) } }
         requires outputs { length room.outputs.items ≡ length part.old.outputs }
         requires ready { IsReadyFor (W.ready watch.old) part.old (N - 1) 1 }
         requires kept { length tape.old < 8 }
-        ensures ran { OnOk result (Ran N self.old (step part.old own ∷ []) self.new
+        ensures ran { OnOk result (Ran N self.old (step part.old own.now ∷ []) self.new
             (stand tape.old (E.left entropy.old) (W.told watch.old)) (stand tape.new (E.left entropy.new) (W.told watch.new))) }
         ensures lengths { OnOk result ((length self.new.key ≡ length self.old.key)
-            × (length self.new.state ≡ state_after (keeps own.keep) part.old (length self.old.state))) }
+            × (length self.new.state ≡ state_after (keeps own.now.keep) part.old (length self.old.state))) }
         ensures wants { OnOk result (E.wanted entropy.new ≡ E.wanted entropy.old) }
         ensures ready { OnOk result (StaysReadyBehind (W.ready watch.old) (W.ready watch.new) part.old (N - 1) 1) }
         ensures steps { OnOk result (steps.new ≡ steps.old + length part.old.gates) }
@@ -185,7 +184,7 @@ impl<const N: usize> ChainRun<N> {
         ensures left { OnErr result (E.left entropy.new ≡ E.left entropy.old) }
         ensures watch { OnErr result (watch.new ≡ watch.old) }
         ensures uncounted { OnErr result (steps.new ≡ steps.old) }
-        ensures failed { OnErr result ((E.wanted entropy.new ≡ new_bytes tape.old (coin_count part.old N (length own.message.now)))
+        ensures failed { OnErr result ((E.wanted entropy.new ≡ new_bytes tape.old (coin_count part.old N (length own.now.message.now)))
             × (1 ≤ E.wanted entropy.new)) }
         ensures counts { E.faults entropy.new ≡ faults_after (is_err result) (E.faults entropy.old) }
     {
