@@ -1,6 +1,6 @@
 -- The shares of inputs that are laid source by source.
-use Rattle.std.proofs.Common.{◌≡◌, ℕ, zero, suc, pred, ◌+◌, ◌*◌, ◌<◌, ◌≤◌, Bool, List, [], ◌∷◌, ◌++◌, map, length, take, drop, get_or, All, refl, ap, ap₂, sym, ◌∙◌, arith, length-append, length-drop}
-use Rattle.std.proofs.lemmas.List.{map-append, take-map, drop-map, length-map, length-take-le, get_or-take, get_or-drop}
+use Rattle.std.proofs.Common.{◌≡◌, ℕ, zero, suc, pred, ◌+◌, ◌*◌, ◌<◌, ◌≤◌, Bool, List, [], ◌∷◌, ◌++◌, map, length, take, drop, get_or, All, refl, ap, ap₂, sym, ◌∙◌, arith, append_assoc, length-append, length-drop}
+use Rattle.std.proofs.lemmas.List.{map-append, take-map, drop-map, length-map, length-take-le, get_or-take, get_or-drop, append-nil, take_more, take-append-drop}
 use Rattle.std.proofs.lemmas.List.Elements.{All-head, All-tail}
 use Rattle.mask_bits.specs.Lanes.{lane}
 use Rattle.mask_circuit.specs.Wires.{each}
@@ -95,3 +95,27 @@ module _ (N : ℕ) (key state : List (List ℕ)) where
   length-all_laid sources there =
       sym (length-map (all_laid N key state sources) (lane 0)) ∙ ap length (all_laid-lane sources [] there)
       ∙ length-input_shares N (registers key state) (input_bits sources) []
+
+-- ONE SOURCE AFTER ANOTHER
+
+module _ (N : ℕ) (key state : List (List ℕ)) where
+  all_laid-append : (xs ys : List Source) → all_laid N key state (xs ++ ys) ≡ all_laid N key state xs ++ all_laid N key state ys
+  all_laid-append [] ys = refl
+  all_laid-append (x ∷ xs) ys =
+      ap (λ (more : List (List ℕ)). laid N key state x ++ more) (all_laid-append xs ys)
+      ∙ sym (append_assoc (laid N key state x) (all_laid N key state xs) (all_laid N key state ys))
+
+  pub all_laid-more : (sources : List Source) (i : ℕ) (d : Source) → i < length sources →
+      all_laid N key state (take (i + 1) sources) ≡ all_laid N key state (take i sources) ++ laid N key state (get_or sources i d)
+  all_laid-more sources i d lt =
+      ap (all_laid N key state) (take_more sources i d lt) ∙ all_laid-append (take i sources) (get_or sources i d ∷ [])
+      ∙ ap (λ (more : List (List ℕ)). all_laid N key state (take i sources) ++ more) (append-nil (laid N key state (get_or sources i d)))
+
+  -- the next source ends within all of them
+  pub ends_within : (sources : List Source) (i : ℕ) (d : Source) → i < length sources →
+      length (all_laid N key state (take i sources)) + length (laid N key state (get_or sources i d)) ≤ length (all_laid N key state sources)
+  ends_within sources i d lt =
+      let whole = ap length (ap (all_laid N key state) (sym (take-append-drop (i + 1) sources)) ∙ all_laid-append (take (i + 1) sources) (drop (i + 1) sources)) in
+      let parts = length-append (all_laid N key state (take (i + 1) sources)) (all_laid N key state (drop (i + 1) sources)) in
+      let front = ap length (all_laid-more sources i d lt) ∙ length-append (all_laid N key state (take i sources)) (laid N key state (get_or sources i d)) in
+      omega arith

@@ -12,7 +12,7 @@ pub enum Source<'a> {
 }
 
 /// What becomes of the outputs of an evaluation.
-#[derive(Clone, Copy, Debug, PartialEq, Eq)]
+#[derive(Clone, Copy)]
 pub enum Keep {
     /// They replace as many bits at the front of the key.
     AsKey,
