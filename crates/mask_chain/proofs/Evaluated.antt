@@ -40,8 +40,8 @@ sharing-is N circuit e =
     ap₂ (λ (d n : ℕ). d * n) (sym (sub-one N)) (ap length (message-is circuit e) ∙ length-map e.message.now (bit 0))
 
 -- and so many bits the step takes
-pub stretch-is : (N : ℕ) (circuit : Netlist) (e : Evaluation) → stretch N (step circuit e) ≡ coin_count circuit N (length e.message.now)
-stretch-is N circuit e = ap (λ (m : ℕ). m + draws circuit N) (sharing-is N circuit e)
+pub stretch_is : (N : ℕ) (circuit : Netlist) (e : Evaluation) → stretch N (step circuit e) ≡ coin_count circuit N (length e.message.now)
+stretch_is N circuit e = ap (λ (m : ℕ). m + draws circuit N) (sharing-is N circuit e)
 
 -- THE STEP
 

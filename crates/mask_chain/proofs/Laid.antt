@@ -1,8 +1,11 @@
 -- The shares of inputs that are laid source by source.
-use Rattle.std.proofs.Common.{◌≡◌, ℕ, zero, suc, pred, ◌+◌, ◌*◌, ◌<◌, ◌≤◌, Bool, List, [], ◌∷◌, ◌++◌, map, length, take, drop, get_or, All, refl, ap, ap₂, sym, ◌∙◌, arith, append_assoc, length-append, length-drop}
-use Rattle.std.proofs.lemmas.List.{map-append, take-map, drop-map, length-map, length-take-le, get_or-take, get_or-drop, append-nil, take_more, take-append-drop}
+use Rattle.std.proofs.Common.{◌≡◌, ℕ, zero, suc, pred, ◌+◌, ◌-◌, ◌*◌, ◌<◌, ◌≤◌, Bool, List, [], ◌∷◌, ◌++◌, map, length, take, drop, get_or, All, refl, ap, ap₂, sym, ◌∙◌, arith, append_assoc, length-append, length-drop}
+use Rattle.std.proofs.lemmas.List.{map-append, take-map, drop-map, length-map, length-take-le, get_or-take, get_or-drop, append-nil, take_more, take-append-drop, take-take, drop-take}
+use Rattle.std.proofs.Math.Seq.{take-append_seam, drop-append_seam}
 use Rattle.std.proofs.lemmas.List.Elements.{All-head, All-tail}
+use Rattle.mask_bits.specs.Reading.{bit}
 use Rattle.mask_bits.specs.Lanes.{lane}
+use Rattle.mask_circuit.specs.Netlist.{Netlist}
 use Rattle.mask_circuit.specs.Wires.{each}
 use Rattle.mask_shares.proofs.Lists.{each-get_or, each-same}
 use Rattle.mask_trace.specs.Steps.{InputBit, Registers, plain_bits}
@@ -10,10 +13,11 @@ use Rattle.mask_trace.specs.Steps as steps
 use Rattle.mask_trace.specs.Traces.{BitShares, input_shares}
 use Rattle.mask_trace.proofs.Inputs.{inputs_stand_in_parts, publics-lane, states}
 use Rattle.mask_trace.proofs.Computing.{length-input_shares}
-use Rattle.mask_chain.specs.Evaluations.{IsThere, all_laid, input_bits, laid, source_bits}
+use Rattle.mask_chain.specs.Evaluations.{IsThere, Suits, all_laid, input_bits, laid, source_bits}
 use Rattle.mask_chain.specs.Chains.{registers}
 use Rattle.mask_chain.specs.declared.evaluations.Source.{Source}
 use Rattle.mask_chain.specs.declared.evaluations.Source.TheVariants.{Key, State, Public}
+use Rattle.mask_chain.specs.declared.evaluations.Evaluation.{Evaluation}
 
 -- THE BITS OF A SOURCE
 
@@ -119,3 +123,32 @@ module _ (N : ℕ) (key state : List (List ℕ)) where
       let parts = length-append (all_laid N key state (take (i + 1) sources)) (all_laid N key state (drop (i + 1) sources)) in
       let front = ap length (all_laid-more sources i d lt) ∙ length-append (all_laid N key state (take i sources)) (laid N key state (get_or sources i d)) in
       omega arith
+
+-- THE INPUTS OF A STEP
+
+-- what is laid before the message and behind it, as two parts of one list
+pub laid_parts : (before behind first inputs old : List (List ℕ)) (m n : ℕ) → m ≡ 0 + length before → n ≡ m + length behind →
+    take m first ≡ take 0 old ++ before → take n inputs ≡ take m first ++ behind →
+    (take m inputs ≡ before) × (take (n - m) (drop m inputs) ≡ behind)
+laid_parts before behind first inputs old m n m_is n_is front all =
+    let size : m ≡ length before = omega arith in
+    let whole : take n inputs ≡ before ++ behind = all ∙ ap (λ (xs : List (List ℕ)). xs ++ behind) front in
+    let rest : m + (n - m) ≡ n = omega arith in (
+      sym (take-take m n inputs (omega arith)) ∙ ap₂ (λ (k : ℕ) (xs : List (List ℕ)). take k xs) size whole ∙ take-append_seam before behind,
+      sym (drop-take m (n - m) inputs) ∙ ap (λ (k : ℕ). drop m (take k inputs)) rest
+          ∙ ap₂ (λ (k : ℕ) (xs : List (List ℕ)). drop k xs) size whole ∙ drop-append_seam before behind,
+    )
+
+-- with the message they are as many as the inputs
+pub counted : (N : ℕ) (key state : List (List ℕ)) (circuit : Netlist) (e : Evaluation) →
+    Suits (length key) (length state) circuit e →
+    length (all_laid N key state e.before.now) + length e.message.now + length (all_laid N key state e.behind.now) ≡ circuit.inputs
+counted N key state circuit e suits =
+    let message = map steps.Plain (lane 0 e.message.now) in
+    let all = length-append (input_bits e.before.now) (message ++ input_bits e.behind.now) in
+    let rest = length-append message (input_bits e.behind.now) in
+    let words = length-map (lane 0 e.message.now) steps.Plain ∙ length-map e.message.now (bit 0) in
+    let first = length-all_laid N key state e.before.now suits.before in
+    let last = length-all_laid N key state e.behind.now suits.behind in
+    let count = suits.count in
+    omega arith

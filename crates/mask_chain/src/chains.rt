@@ -6,19 +6,19 @@ ghost use Rattle.mask_io.specs.Outside.{faults_after};
 ghost use Rattle.mask_tape.specs.Tape.{failed_to_draw, new_bytes};
 ghost use Rattle.mask_tape.specs.declared.tape.TapeError.TheVariants as TapeError;
 ghost use Rattle.mask_eval.specs.Watching.{IsReadyFor, StaysReadyBehind};
-ghost use Rattle.mask_eval.specs.Evaluated.{coin_count};
-ghost use Rattle.mask_trace.specs.Steps.{kept, state_after};
+ghost use Rattle.mask_trace.specs.Steps.{kept, state_after, stretch};
 ghost use Rattle.mask_trace.specs.Values.{HasShares};
 ghost use Rattle.mask_trace.specs.Drawing.{Ran, stand};
 ghost use Rattle.mask_chain.specs.declared.evaluations.Keep.TheVariants as Keep;
 ghost use Rattle.mask_chain.specs.Evaluations.{Suits, keeps, step};
 ghost use Rattle.mask_chain.specs.Chains.{AreShares, Stopped};
 
+use crate::evaluating::evaluate_on;
 use crate::evaluations::{Evaluation, Keep};
-use crate::inputs::{lay, put};
+use crate::inputs::put;
 use crate::parts::{Part, Room};
 use mask_circuit::Steps;
-use mask_eval::{Watch, evaluate};
+use mask_eval::Watch;
 use mask_io::{Entropy, Failed};
 use mask_shares::Shares;
 use mask_tape::{Tape, TapeError};
@@ -97,7 +97,7 @@ impl<const N: usize> ChainRun<N> {
         ensures counts { E.faults entropy.new ≡ faults_after (failed_to_draw result) (E.faults entropy.old) }
     {
         watch.cancel();
-        let room = part.room(alloc, own.message.len(), watch)?;
+        let room = part.room(alloc, own, watch)?;
         match self.evaluate(part, own, room, tape, entropy, watch, steps) {
             Ok(()) => Ok(()),
             Err(_failed) => Err(TapeError::Failed),
@@ -139,8 +139,8 @@ impl<const N: usize> ChainRun<N> {
         ensures counts { E.faults entropy.new ≡ faults_after (failed_to_draw result) (E.faults entropy.old) }
     {
         watch.cancel();
-        let early = first.room(alloc, ahead.message.len(), watch)?;
-        let late = part.room(alloc, own.message.len(), watch)?;
+        let early = first.room(alloc, ahead, watch)?;
+        let late = part.room(alloc, own, watch)?;
         match self.evaluate(first, ahead, early, tape, entropy, watch, steps) {
             Ok(()) => {}
             Err(_failed) => return Err(TapeError::Failed),
@@ -165,7 +165,7 @@ impl<const N: usize> ChainRun<N> {
         requires some { 2 ≤ N }
         requires few { N ≤ 8 }
         requires suits { Suits (length self.old.key) (length self.old.state) part.old own.now }
-        requires coins { room.coins ≡ record { lanes = 1; bits = coin_count part.old N (length own.now.message.now) } }
+        requires coins { room.coins ≡ record { lanes = 1; bits = stretch N (step part.old own.now) } }
         requires outputs { length room.outputs.items ≡ length part.old.outputs }
         requires ready { IsReadyFor (W.ready watch.old) part.old (N - 1) 1 }
         requires kept { length tape.old < 8 }
@@ -184,18 +184,16 @@ impl<const N: usize> ChainRun<N> {
         ensures left { OnErr result (E.left entropy.new ≡ E.left entropy.old) }
         ensures watch { OnErr result (watch.new ≡ watch.old) }
         ensures uncounted { OnErr result (steps.new ≡ steps.old) }
-        ensures failed { OnErr result ((E.wanted entropy.new ≡ new_bytes tape.old (coin_count part.old N (length own.now.message.now)))
+        ensures failed { OnErr result ((E.wanted entropy.new ≡ new_bytes tape.old (stretch N (step part.old own.now)))
             × (1 ≤ E.wanted entropy.new)) }
         ensures counts { E.faults entropy.new ≡ faults_after (is_err result) (E.faults entropy.old) }
     {
-        let before = lay(own.before, &self.key, &self.state, 0, &mut part.inputs);
-        let behind = lay(own.behind, &self.key, &self.state, before, &mut part.inputs);
-        match evaluate(
+        match evaluate_on(
+            &self.key,
+            &self.state,
             part.circuit.admitted(),
-            1,
-            &part.inputs[..before],
-            own.message,
-            &part.inputs[before..behind],
+            own,
+            &mut part.inputs,
             &mut part.frame,
             room.coins,
             tape,

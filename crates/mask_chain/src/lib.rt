@@ -2,6 +2,7 @@
 #![tactic(auto)]
 
 mod chains;
+mod evaluating;
 mod evaluations;
 mod inputs;
 mod parts;

@@ -1,9 +1,11 @@
 //! A circuit, with all that its evaluations need.
 
 ghost use Rattle.std.specs.Prelude.{◌≡◌, ◌-◌, ◌≤◌, length, IfOk, OnOk};
-ghost use Rattle.mask_eval.specs.Evaluated.{coin_count};
 ghost use Rattle.mask_eval.specs.Watching.{BecomesReadyFor};
+ghost use Rattle.mask_trace.specs.Steps.{stretch};
+ghost use Rattle.mask_chain.specs.Evaluations.{step};
 
+use crate::evaluations::Evaluation;
 use mask_check::Strong;
 use mask_eval::{Frame, Watch, coin_room};
 use mask_shares::Shares;
@@ -56,17 +58,18 @@ impl<const N: usize> Part<N> {
         })
     }
 
-    // All memory of an evaluation with so many bits of the message. The watch is made ready for it.
+    // All memory of this evaluation. The watch is made ready for it.
+    #[tactic(auto, using(crate::proofs::Evaluated::stretch_is))]
     pub(crate) fn room<W: Watch>(
         &self,
         alloc: Global,
-        message: usize,
+        own: &Evaluation,
         watch: &mut W,
     ) -> Result<Room<N>, AllocError>
         requires some { 2 ≤ N }
         requires few { N ≤ 8 }
-        requires message { message ≤ self.now.inputs }
-        ensures coins { IfOk result (λ room. room.coins ≡ record { lanes = 1; bits = coin_count self.now N message }) }
+        requires count { length (step self.now own.now).inputs ≡ self.now.inputs }
+        ensures coins { IfOk result (λ room. room.coins ≡ record { lanes = 1; bits = stretch N (step self.now own.now) }) }
         ensures outputs { IfOk result (λ room. length room.outputs.items ≡ length self.now.outputs) }
         ensures ready { OnOk result (BecomesReadyFor (W.ready watch.old) (W.ready watch.new) self.now (N - 1) 1) }
         ensures told { W.told watch.new ≡ W.told watch.old }
@@ -74,7 +77,7 @@ impl<const N: usize> Part<N> {
         let admitted = self.circuit.admitted();
         let circuit = admitted.circuit();
         let order = N as u32 - 1;
-        let coins = coin_room(alloc, admitted, order, 1, message)?;
+        let coins = coin_room(alloc, admitted, order, 1, own.message.len())?;
         let outputs = vec![in alloc; Shares::from_parts([0; N]); circuit.outputs().len()]?;
         watch.room(circuit, order, 1)?;
         Ok(Room { coins, outputs })
