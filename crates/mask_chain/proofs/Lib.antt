@@ -1,3 +1,4 @@
 pub mod Laid
 pub mod Registers
 pub mod Evaluated
+pub mod Stopping

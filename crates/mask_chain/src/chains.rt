@@ -91,6 +91,7 @@ impl<const N: usize> ChainRun<N> {
         ensures stopped { IfErr result (λ e. e ≡ TapeError.Failed → Stopped N self.old self.new [] (step part.old own.now)
             (E.wanted entropy.new) steps.old steps.new
             (stand tape.old (E.left entropy.old) (W.told watch.old)) (stand tape.new (E.left entropy.new) (W.told watch.new))) }
+        ensures same { OnErr result (self.new ≡ self.old) }
         ensures no_memory { IfErr result (λ e. e ≡ TapeError.NoMemory → (self.new ≡ self.old) × (tape.new ≡ tape.old)
             × (entropy.new ≡ entropy.old) × (W.told watch.new ≡ W.told watch.old) × (steps.new ≡ steps.old)) }
         ensures part { part.new ≡ part.old }

@@ -59,7 +59,6 @@ impl<const N: usize> Part<N> {
     }
 
     // All memory of this evaluation. The watch is made ready for it.
-    #[tactic(auto, using(crate::proofs::Evaluated::stretch_is))]
     pub(crate) fn room<W: Watch>(
         &self,
         alloc: Global,

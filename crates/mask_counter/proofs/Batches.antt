@@ -14,7 +14,7 @@ use Rattle.mask_trace.specs.Steps.{Registers, Step, stretch, bits_of}
 use Rattle.mask_trace.specs.Traces.{BitShares, output_shares}
 use Rattle.mask_trace.specs.Drawing.{Stand, Ran, RanPart, stand}
 use Rattle.mask_trace.proofs.Traces.{traces_split, bits_of-cons}
-use Rattle.mask_trace.proofs.Drawing.{runs_join, draws_join, nothing_ran}
+use Rattle.mask_trace.proofs.Drawing.{runs_join, draws_join}
 use Rattle.mask_modes.specs.CounterMode.{block_count}
 use Rattle.mask_modes.specs.Steps.{IsBatch, ahead_of, block_at, block_step, block_steps, is_due, refresh_step}
 use Rattle.mask_modes.proofs.Batches.{batches_are_steps}
@@ -78,6 +78,10 @@ refresh_bits N run =
 -- a key and no state
 abbrev with_key : List BitShares → Registers BitShares
 with_key shares = record { key = shares; state = [] }
+
+-- nothing was evaluated yet
+nothing_ran : (N : ℕ) (have : Registers BitShares) (steps : List Step) (a : Stand) → length a.kept < 8 → RanPart N have steps 0 a a
+nothing_ran N have steps a small = record { within = omega arith; now = have; ran = runs_join.none N have a small }
 
 module _ (N : ℕ) (run : Between) (part : List ℕ) (is : IsBatch (mode run) run.done part) where
   abbrev ahead : List Step
