@@ -2,3 +2,4 @@ pub mod Laid
 pub mod Registers
 pub mod Evaluated
 pub mod Stopping
+pub mod Forms

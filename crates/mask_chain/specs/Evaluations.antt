@@ -21,6 +21,10 @@ abbrev pub input_bits : List Source → List steps.InputBit
 input_bits [] = []
 input_bits (source ∷ sources) = source_bits source ++ input_bits sources
 
+-- all inputs: those before the bits of the message, these, and those behind them
+abbrev pub inputs_of : List Source → List ℕ → List Source → List steps.InputBit
+inputs_of before message behind = input_bits before ++ (map steps.Plain (lane 0 message) ++ input_bits behind)
+
 abbrev pub keeps : Keep → steps.Keeps
 keeps AsKey = steps.AsKey
 keeps AsState = steps.AsState
@@ -29,7 +33,7 @@ keeps AsState = steps.AsState
 abbrev pub step : Netlist → Evaluation → steps.Step
 step circuit e = record {
   circuit = circuit;
-  inputs = input_bits e.before.now ++ (map steps.Plain (lane 0 e.message.now) ++ input_bits e.behind.now);
+  inputs = inputs_of e.before.now e.message.now e.behind.now;
   keeps = keeps e.keep;
 }
 

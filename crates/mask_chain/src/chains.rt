@@ -49,7 +49,8 @@ impl<const N: usize> ChainRun<N> {
     /// A run with this key and no state. The shares of a bit are those of lane 0.
     pub fn new(alloc: Global, key: &[Shares<N>]) -> Result<ChainRun<N>, AllocError>
         requires few { N ≤ 8 }
-        ensures { IfOk result (λ run. run ≡ record { key = map (lane 0) key.now; state = [] }) }
+        ensures value { IfOk result (λ run. run ≡ record { key = map (lane 0) key.now; state = [] }) }
+        ensures shares { IfOk result (λ run. HasShares N (length key.now) 0 run) }
     {
         let mut own = vec![in alloc; Shares::from_parts([0; N]); key.len()]?;
         put(key, 0, &mut own);
