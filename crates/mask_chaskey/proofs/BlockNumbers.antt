@@ -8,9 +8,14 @@ use Rattle.mask_bits.specs.Reading.{number}
 use Rattle.mask_bits.proofs.Numbers.{number-append, number-lt}
 use Rattle.mask_circuit.specs.Netlist.{Netlist}
 use Rattle.mask_circuit.specs.Value.{value_at}
-use Rattle.mask_chaskey.specs.Chaskey.{in_turn, words_of, joined}
+use Rattle.mask_parts.specs.Turns.{in_turn}
+use Rattle.mask_parts.specs.Words32.{words_of, joined}
+use Rattle.mask_parts.proofs.Joining.{xor-joined}
+use Rattle.mask_parts.proofs.Passing.{IsReady}
+use Rattle.mask_parts.proofs.Ranges.{elements}
+use Rattle.mask_parts.proofs.WordPassing.{IsWord}
+use Rattle.mask_parts.proofs.WordShowing.{shown}
 use Rattle.mask_chaskey.specs.NamedChaskey.{four_words}
-use Rattle.mask_chaskey.proofs.Passing.{IsReady, IsWord}
 
 -- FOUR WORDS
 
@@ -56,15 +61,7 @@ length-four_words us = refl
 
 -- NUMBERS
 
--- the number that values stand for
-abbrev pub shown : List Bool → List ℕ → ℕ
-shown vs us = number (map (value_at vs) us)
-
 module _ (T : Type 0) (vs : List Bool) (c : Netlist) where
-  -- a word of 32 values is a number below 2 ^ 32
-  pub shown-lt : (w : List ℕ) → IsWord T c w → shown vs w < 2 ^ 32
-  shown-lt w is = rw (length-map w (value_at vs) ∙ is.long) at (number-lt (map (value_at vs) w))
-
   pub shown-concat : (ws : List (List ℕ)) → All (IsWord T c) ws → shown vs (concat ws) ≡ joined (map (shown vs) ws)
   unfolding joined
   shown-concat [] all = refl
@@ -75,36 +72,11 @@ module _ (T : Type 0) (vs : List Bool) (c : Netlist) where
       ∙ number-append (map (value_at vs) w) (map (value_at vs) (concat ws))
       ∙ rw (long, shown-concat ws (All-tail (IsWord T c) w ws all)) refl
 
-  -- words are those of the number that they make
-  pub words_of-joined : (ws : List (List ℕ)) → All (IsWord T c) ws → words_of (length ws) (joined (map (shown vs) ws)) ≡ map (shown vs) ws
-  unfolding words_of joined
-  words_of-joined [] all = refl
-  words_of-joined (w ∷ ws) all =
-      let low : shown vs w < 2 ^ 32 = shown-lt w (All-head (IsWord T c) w ws all) in
-      let rest : ℕ = joined (map (shown vs) ws) in
-      let whole : shown vs w + 2 ^ 32 * rest ≡ rest * 2 ^ 32 + shown vs w = omega arith in
-      rw (whole, mod-mul-add rest (2 ^ 32) (shown vs w) low, div-mul-add rest (2 ^ 32) (shown vs w) low)
-      (ap (λ (ks : List ℕ). shown vs w ∷ ks) (words_of-joined ws (All-tail (IsWord T c) w ws all)))
-
 -- THE XOR OF BLOCKS
-
--- the XOR of numbers of words is that of the words
-xor-joined : (a b m n : ℕ) → a < 2 ^ 32 → b < 2 ^ 32 → bit_xor (a + 2 ^ 32 * m) (b + 2 ^ 32 * n) ≡ bit_xor a b + 2 ^ 32 * bit_xor m n
-xor-joined a b m n a_small b_small =
-    let left : a + 2 ^ 32 * m ≡ m * 2 ^ 32 + a = omega arith in
-    let right : b + 2 ^ 32 * n ≡ n * 2 ^ 32 + b = omega arith in
-    rw (left, right, xor_block 32 m n a b a_small b_small) (omega arith)
 
 -- word k of these xored with that of others
 abbrev pub word_xored : List ℕ → ℕ → List ℕ → List ℕ
 word_xored zs k xs = slice_set xs k (bit_xor (slice_index xs k) (slice_index zs k))
-
--- the elements of a list one by one, from place a on
-pub elements : {A : Type 0} (d : A) (xs : List A) (a n : ℕ) → a + n ≤ length xs → drop a xs ≡ map (λ i. get_or xs i d) (range_with_len a n) ++ drop (a + n) xs
-elements d xs a zero within = ap (λ (k : ℕ). drop k xs) (omega arith)
-elements d xs a (suc n) within =
-    let at : a + 1 + n ≡ a + suc n = omega arith in
-    drop_more xs a d (omega arith) ∙ ap (λ ys. get_or xs a d ∷ ys) (rw at at (elements d xs (a + 1) n (omega arith)))
 
 four : (xs : List ℕ) → length xs ≡ 4 → xs ≡ slice_index xs 0 ∷ slice_index xs 1 ∷ slice_index xs 2 ∷ slice_index xs 3 ∷ []
 four xs long = elements 0 xs 0 4 (omega arith) ∙ ap (λ (ys : List ℕ). map (slice_index xs) (range_with_len 0 4) ++ ys) (drop_all 4 xs (omega arith))

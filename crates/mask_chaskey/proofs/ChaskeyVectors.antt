@@ -1,7 +1,9 @@
 -- Tags of Chaskey-12 that programs computed which share nothing with its definitions here.
 use Rattle.std.proofs.Common.{◌≡◌, ℕ, List, [], ◌∷◌, take, replicate, refl}
 use Rattle.std.specs.List.{range_with_len}
-use Rattle.mask_chaskey.specs.Chaskey.{mixed, turned, round, in_turn, permuted, words_of, joined, permutation, doubled, last_mask, absorbed, finished, bytes_of, block_at, blocks_before, last_bytes, end_of, padded, last_block, state_before_last, chaskey_mac}
+use Rattle.mask_parts.specs.Turns.{in_turn}
+use Rattle.mask_parts.specs.Words32.{words_of, joined}
+use Rattle.mask_chaskey.specs.Chaskey.{mixed, turned, round, permuted, permutation, doubled, last_mask, absorbed, finished, bytes_of, block_at, blocks_before, last_bytes, end_of, padded, last_block, state_before_last, chaskey_mac}
 
 -- the keys 00 01 .. 0f, and f0 f1 .. ff, of which both doubles feed back
 abbrev key : List ℕ

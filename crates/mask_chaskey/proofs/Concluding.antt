@@ -16,52 +16,26 @@ use Rattle.mask_circuit.specs.Acceptance.{IsStrong}
 use Rattle.mask_parts.specs.CipherCircuits.{Size, size_of, IsCipherCircuit}
 use Rattle.mask_parts.specs.Drafts.{with_outputs, bits_of, Grows, IsWithinLimits}
 use Rattle.mask_parts.specs.Fences.{with_fence}
-use Rattle.mask_parts.proofs.Concluding.{IsStrong-tidy_fence, IsCipherCircuit-strong}
+use Rattle.mask_parts.specs.Words32.{joined}
+use Rattle.mask_parts.proofs.Concluding.{IsStrong-tidy_fence, IsCipherCircuit-strong, Grows-fence, IsDone, IsStrong-done, IsCipherCircuit-done, bits_of-lowest}
+use Rattle.mask_parts.proofs.Counting.{same_size, size-with_fence, IsWithinLimits-sized}
 use Rattle.mask_parts.proofs.Fencing.{IsWellFormed-fence, plain-with_fence}
 use Rattle.mask_parts.proofs.Growing.{inputs-with_gates, outputs-with_gates, value_count-with_gates, product_count-with_gates, refresh_count-with_gates, Grows-trans, Grows-with_gates, Grows-with_outputs}
-use Rattle.mask_parts.proofs.Solving.{Solves-all}
+use Rattle.mask_parts.proofs.Passing.{IsReady, Passes, Passes-trans, AreOf, AreOf-ready}
+use Rattle.mask_parts.proofs.Solving.{Solves-all, Solved, Solved-Grows}
+use Rattle.mask_parts.proofs.Turns.{Runs-trans}
+use Rattle.mask_parts.proofs.WordPassing.{IsWord, words-later}
+use Rattle.mask_parts.proofs.WordShowing.{shown}
 use Rattle.mask_chaskey.specs.declared.doubling.End.{End}
 use Rattle.mask_chaskey.specs.declared.doubling.End.TheVariants.{Whole, Short}
-use Rattle.mask_chaskey.specs.Chaskey.{joined, permutation, last_mask, absorbed, finished}
+use Rattle.mask_chaskey.specs.Chaskey.{permutation, last_mask, absorbed, finished}
 use Rattle.mask_chaskey.specs.NamedChaskey.{block_from, with_last_mask, fenced, step_stage, end_stage, named_step, named_end, size_step, size_end, step_of_bits, end_of_bits}
 use Rattle.mask_chaskey.specs.Rounds.{Stage, stage, with_block_xored, with_permutation}
-use Rattle.mask_chaskey.proofs.BlockNumbers.{length-concat, All-concat, shown, shown-concat}
+use Rattle.mask_chaskey.proofs.BlockNumbers.{length-concat, All-concat, shown-concat}
 use Rattle.mask_chaskey.proofs.Lengthening.{Lengthens, Lengthens-trans, Lengthens-block_xored, Lengthens-permutation}
-use Rattle.mask_chaskey.proofs.Passing.{IsReady, IsWord, Passes, Passes-trans}
-use Rattle.mask_chaskey.proofs.Running.{IsFine, Runs, Runs-trans, All-later, Runs-block_xored, Runs-permutation, mask_values, Runs-last_mask}
-use Rattle.mask_chaskey.proofs.Showing.{Solved, Solved-Grows, block_shown, shown-block_xored, shown-permutation, shown-last_mask}
+use Rattle.mask_chaskey.proofs.Running.{IsFine, Runs, Runs-block_xored, Runs-permutation, mask_values, Runs-last_mask}
+use Rattle.mask_chaskey.proofs.Showing.{block_shown, shown-block_xored, shown-permutation, shown-last_mask}
 use Rattle.mask_chaskey.proofs.Starting.{length-block_from, words-block_from, IsFine-inputs, shown-block_from}
-
--- SIZES
-
-products-refs : (us : List ℕ) → count_by is_product (map Ref us) ≡ 0
-products-refs [] = refl
-products-refs (u ∷ us) = rw (sum_by-cons (λ (g : Gate). cond (is_product g) 1 0) (Ref u) (map Ref us), products-refs us) (omega arith)
-
-refreshes-refs : (us : List ℕ) → count_by is_refresh (map Ref us) ≡ length us
-refreshes-refs [] = refl
-refreshes-refs (u ∷ us) = rw (sum_by-cons (λ (g : Gate). cond (is_refresh g) 1 0) (Ref u) (map Ref us), refreshes-refs us) (omega arith)
-
--- sizes are equal by their parts
-same_size : (a b : Size) → a.inputs ≡ b.inputs → a.outputs ≡ b.outputs → a.products ≡ b.products → a.refreshes ≡ b.refreshes → a.values ≡ b.values → a ≡ b
-same_size a b i o p f v = λ t. record { inputs = i t; outputs = o t; products = p t; refreshes = f t; values = v t }
-
--- a draft without outputs that is fenced
-size-with_fence : (c : Netlist) (us : List ℕ) → c.outputs ≡ []
-    → size_of (with_fence c us) ≡ record {
-      inputs = c.inputs;
-      outputs = length us;
-      products = product_count c;
-      refreshes = refresh_count c + length us;
-      values = value_count c + length us;
-    }
-unfolding with_fence with_outputs size_of
-size-with_fence c us none =
-    same_size _ _ (inputs-with_gates c (map Ref us))
-    (rw (outputs-with_gates c (map Ref us), none) (length-range_with_len _ (length us)))
-    (product_count-with_gates c (map Ref us) ∙ rw (products-refs us) (omega arith))
-    (refresh_count-with_gates c (map Ref us) ∙ rw (refreshes-refs us) refl)
-    (value_count-with_gates c (map Ref us) ∙ rw (length-map us Ref) refl)
 
 -- FENCED STAGES
 
@@ -71,8 +45,8 @@ pub record CameOut (n : ℕ) (s : Stage) (v p : ℕ) : Type 1 where
   pub fine : (T : Type 0) → IsFine T s
 
 pub Grows-fenced : (s : Stage) → Grows s.draft (fenced s)
-unfolding fenced with_fence
-Grows-fenced s = Grows-trans _ _ _ (Grows-with_gates s.draft _) (Grows-with_outputs _ _)
+unfolding fenced
+Grows-fenced s = Grows-fence s.draft (concat s.block)
 
 module _ (n : ℕ) (s : Stage) (v p : ℕ) (out : CameOut n s v p) where
   abbrev us : List ℕ
@@ -81,55 +55,35 @@ module _ (n : ℕ) (s : Stage) (v p : ℕ) (out : CameOut n s v p) where
   us-long : length us ≡ 128
   us-long = length-concat ⊥ s.draft s.block (out.fine ⊥).words ∙ (let four = (out.fine ⊥).long in omega arith)
 
-  pub known-us : All (λ u. u < value_count s.draft) us
-  known-us = All-weaker (IsReady ⊥ s.draft) (λ u. u < value_count s.draft) (λ u ready. ready.below) us (All-concat ⊥ s.draft s.block (out.fine ⊥).words)
+  pub known-us : AreOf s.draft us
+  known-us = AreOf-ready ⊥ s.draft us (All-concat ⊥ s.draft s.block (out.fine ⊥).words)
 
   ins : s.draft.inputs ≡ n
   ins = (out.passes ⊥).adds.inputs
 
-  none : s.draft.outputs ≡ []
-  none = (out.passes ⊥).adds.outputs
+  done : IsDone Unit s.draft us
+  done = record { sound = (out.fine Unit).sound; none = (out.passes ⊥).adds.outputs; known = known-us }
 
   pub size-fenced : size_of (fenced s) ≡ record { inputs = n; outputs = 128; products = p; refreshes = p + 128; values = n + v + 128 }
   unfolding fenced
   size-fenced =
       let adds = (out.passes ⊥).adds in
       let values = adds.values in let products = adds.products in let refreshes = adds.refreshes in let long = us-long in
-      size-with_fence s.draft us none ∙ same_size _ _ ins us-long (omega arith) (omega arith) (omega arith)
-
-  IsWellFormed-fenced : IsWellFormed (fenced s)
-  unfolding fenced
-  IsWellFormed-fenced = IsWellFormed-fence s.draft us (out.fine ⊥).sound.formed known-us none
-
-  pub IsStrong-fenced : IsStrong (fenced s)
-  unfolding fenced
-  IsStrong-fenced = IsStrong-tidy_fence s.draft us (out.fine ⊥).sound.formed known-us none ((out.fine Unit).sound.tidy tt)
-
-  pub IsCircuit-fenced : n + v + 128 ≤ 1_000_000 → IsCircuit (fenced s)
-  unfolding size_of
-  IsCircuit-fenced few = record {
-    formed = IsWellFormed-fenced;
-    few_values = rw (ap (λ (z : Size). z.values) size-fenced) few;
-    few_outputs = rw (ap (λ (z : Size). z.outputs) size-fenced) (lit≤ tt);
-  }
-
-  pub inputs-fenced : (fenced s).inputs ≡ n
-  inputs-fenced = unfold size_of in ap (λ (z : Size). z.inputs) size-fenced
+      size-with_fence s.draft us done.none ∙ same_size _ _ ins us-long (omega arith) (omega arith) (omega arith)
 
   -- its plain values solve the stage's gates, and its outputs are the bits of the block's number
   pub solved-plain : (x : List Bool) → length x ≡ n → Solved (plain_values s.draft x) s.draft
   solved-plain x long = Solves-all s.draft x (long ∙ sym ins) (out.fine ⊥).sound.formed
 
-  pub plain-fenced : (x : List Bool) → length x ≡ n → plain (fenced s) x ≡ lowest 128 (block_shown (plain_values s.draft x) s)
+  bits-fenced : (x : List Bool) → bits_of s.draft x us ≡ lowest 128 (block_shown (plain_values s.draft x) s)
+  bits-fenced x = bits_of-lowest s.draft x us 128 _ us-long (unfold bits_of in shown-concat ⊥ (plain_values s.draft x) s.draft s.block (out.fine ⊥).words)
+
+  -- so it meets the contract of a cipher's circuit, where its size is known
+  pub IsCipherCircuit-fenced : (size : Size) (f : List Bool → List Bool) → size_of (fenced s) ≡ size → IsWithinLimits (fenced s)
+      → ((x : List Bool) → length x ≡ n → lowest 128 (block_shown (plain_values s.draft x) s) ≡ f x) → IsCipherCircuit (fenced s) size f (fenced s)
   unfolding fenced
-  plain-fenced x long =
-      let bits : List Bool = bits_of s.draft x us in
-      let bits_long : length bits ≡ 128 = unfold bits_of in length-map us (value_at (plain_values s.draft x)) ∙ us-long in
-      let nothing : plain s.draft x ≡ [] = ap (map (value_at (plain_values s.draft x))) none in
-      let read : block_shown (plain_values s.draft x) s ≡ number bits = unfold bits_of in sym (shown-concat ⊥ (plain_values s.draft x) s.draft s.block (out.fine ⊥).words) in
-      plain-with_fence s.draft us (out.fine ⊥).sound.formed known-us x (long ∙ sym ins) (rw none (All-nil (λ u. u < value_count s.draft)))
-      ∙ ap (λ (bs : List Bool). bs ++ bits) nothing
-      ∙ sym (lowest-of bits _ 128 read bits_long)
+  IsCipherCircuit-fenced size f sized limits computes =
+      IsCipherCircuit-done s.draft us done size f sized limits (λ x long. bits-fenced x ∙ computes x (long ∙ ins))
 
   -- which is the number of 128 bits
   number-fenced : (vs : List Bool) → number (lowest 128 (block_shown vs s)) ≡ block_shown vs s
@@ -164,7 +118,7 @@ module _ (T : Type 0) where
 
   Runs-step : Runs T step_start step_stage (128 + 10_416) (0 + 1488)
   unfolding step_stage
-  Runs-step = Runs-trans T step_start step_xored (with_permutation step_xored) 128 0 10_416 1488 Runs-step_xored (Runs-permutation T step_xored Runs-step_xored.fine)
+  Runs-step = Runs-trans step_start step_xored (with_permutation step_xored) 128 0 10_416 1488 Runs-step_xored (Runs-permutation T step_xored Runs-step_xored.fine)
 
 pub CameOut-step : CameOut 256 step_stage (128 + 10_416) (0 + 1488)
 CameOut-step = record { passes = λ T. (unfold stage in (Runs-step T).passes); fine = λ T. (Runs-step T).fine }
@@ -193,27 +147,15 @@ pub size-named_step : size_of named_step ≡ size_step
 unfolding named_step
 size-named_step = size-fenced 256 step_stage _ _ CameOut-step
 
-pub IsStrong-named_step : IsStrong named_step
-unfolding named_step
-IsStrong-named_step = IsStrong-fenced 256 step_stage _ _ CameOut-step
-
-IsCircuit-named_step : IsCircuit named_step
-unfolding named_step
-IsCircuit-named_step = IsCircuit-fenced 256 step_stage _ _ CameOut-step (lit≤ tt)
-
 pub IsWithinLimits-named_step : IsWithinLimits named_step
-IsWithinLimits-named_step = record { values = IsCircuit-named_step.few_values; outputs = IsCircuit-named_step.few_outputs }
-
-plain-named_step : (x : List Bool) → length x ≡ named_step.inputs → plain named_step x ≡ step_of_bits x
-unfolding named_step step_of_bits
-plain-named_step x long =
-    let here : length x ≡ 256 = long ∙ inputs-fenced 256 step_stage _ _ CameOut-step in
-    plain-fenced 256 step_stage _ _ CameOut-step x here ∙ ap (lowest 128) (step_computes x here)
+IsWithinLimits-named_step = IsWithinLimits-sized named_step size_step size-named_step (lit≤ tt) (lit≤ tt)
 
 -- so the circuit of a step meets the contract of a cipher's circuit
 pub IsCipherCircuit-named_step : IsCipherCircuit named_step size_step step_of_bits named_step
+unfolding named_step step_of_bits
 IsCipherCircuit-named_step =
-    IsCipherCircuit-strong named_step size_step step_of_bits named_step refl IsCircuit-named_step size-named_step IsStrong-named_step plain-named_step
+    IsCipherCircuit-fenced 256 step_stage _ _ CameOut-step size_step step_of_bits size-named_step IsWithinLimits-named_step
+    (λ x long. ap (lowest 128) (step_computes x long))
 
 -- AN END
 
@@ -242,7 +184,7 @@ module _ (T : Type 0) (end : End) where
 
   -- the inputs behind the mask's gates
   pub inputs_later : (a : ℕ) → a + 128 ≤ 384 → All (IsWord T (end_mask end).draft) (block_from a)
-  inputs_later a within = All-later T end_key.draft (end_mask end).draft (mask_values end) 0 (block_from a) Runs-mask.passes (unfold stage in words-block_from T 384 a within)
+  inputs_later a within = words-later T end_key.draft (end_mask end).draft (mask_values end) 0 (block_from a) Runs-mask.passes (unfold stage in words-block_from T 384 a within)
 
   pub end_start-fine : IsFine T (end_start end)
   unfolding stage
@@ -261,21 +203,21 @@ module _ (T : Type 0) (end : End) where
 
   pub mask_later : (s : Stage) (v p : ℕ) → Runs T (end_start end) s v p → All (IsWord T s.draft) (end_mask end).block
   unfolding stage
-  mask_later s v p runs = All-later T (end_mask end).draft s.draft v p (end_mask end).block runs.passes Runs-mask.fine.words
+  mask_later s v p runs = words-later T (end_mask end).draft s.draft v p (end_mask end).block runs.passes Runs-mask.fine.words
 
   pub Runs-end_masked : Runs T (end_start end) (end_masked end) 256 0
   Runs-end_masked =
-      Runs-trans T (end_start end) (end_xored end) (end_masked end) 128 0 128 0 Runs-end_xored
+      Runs-trans (end_start end) (end_xored end) (end_masked end) 128 0 128 0 Runs-end_xored
       (Runs-block_xored T (end_mask end).block (end_xored end) mask-long (mask_later (end_xored end) 128 0 Runs-end_xored) Runs-end_xored.fine)
 
   pub Runs-end_permuted : Runs T (end_start end) (end_permuted end) 10_672 1488
   Runs-end_permuted =
-      Runs-trans T (end_start end) (end_masked end) (end_permuted end) 256 0 10_416 1488 Runs-end_masked (Runs-permutation T (end_masked end) Runs-end_masked.fine)
+      Runs-trans (end_start end) (end_masked end) (end_permuted end) 256 0 10_416 1488 Runs-end_masked (Runs-permutation T (end_masked end) Runs-end_masked.fine)
 
   Runs-end : Runs T (end_start end) (end_stage end) 10_800 1488
   unfolding end_stage
   Runs-end =
-      Runs-trans T (end_start end) (end_permuted end) _ 10_672 1488 128 0 Runs-end_permuted
+      Runs-trans (end_start end) (end_permuted end) _ 10_672 1488 128 0 Runs-end_permuted
       (Runs-block_xored T (end_mask end).block (end_permuted end) mask-long (mask_later (end_permuted end) 10_672 1488 Runs-end_permuted) Runs-end_permuted.fine)
 
   end_passes : Passes T (only_inputs 384) (end_stage end).draft (mask_values end + 10_800) (0 + 1488)
@@ -338,26 +280,13 @@ unfolding named_end
 size-named_end Whole = size-fenced 384 (end_stage Whole) _ _ (CameOut-end Whole)
 size-named_end Short = size-fenced 384 (end_stage Short) _ _ (CameOut-end Short)
 
-pub IsStrong-named_end : (end : End) → IsStrong (named_end end)
-unfolding named_end
-IsStrong-named_end end = IsStrong-fenced 384 (end_stage end) _ _ (CameOut-end end)
-
-IsCircuit-named_end : (end : End) → IsCircuit (named_end end)
-unfolding named_end
-IsCircuit-named_end Whole = IsCircuit-fenced 384 (end_stage Whole) _ _ (CameOut-end Whole) (lit≤ tt)
-IsCircuit-named_end Short = IsCircuit-fenced 384 (end_stage Short) _ _ (CameOut-end Short) (lit≤ tt)
-
 pub IsWithinLimits-named_end : (end : End) → IsWithinLimits (named_end end)
-IsWithinLimits-named_end end = let is = IsCircuit-named_end end in record { values = is.few_values; outputs = is.few_outputs }
-
-plain-named_end : (end : End) (x : List Bool) → length x ≡ (named_end end).inputs → plain (named_end end) x ≡ end_of_bits end x
-unfolding named_end end_of_bits
-plain-named_end end x long =
-    let here : length x ≡ 384 = long ∙ inputs-fenced 384 (end_stage end) _ _ (CameOut-end end) in
-    plain-fenced 384 (end_stage end) _ _ (CameOut-end end) x here ∙ ap (lowest 128) (end_computes end x here)
+IsWithinLimits-named_end Whole = IsWithinLimits-sized (named_end Whole) (size_end Whole) (size-named_end Whole) (lit≤ tt) (lit≤ tt)
+IsWithinLimits-named_end Short = IsWithinLimits-sized (named_end Short) (size_end Short) (size-named_end Short) (lit≤ tt) (lit≤ tt)
 
 -- so do the circuits of the ends
 pub IsCipherCircuit-named_end : (end : End) → IsCipherCircuit (named_end end) (size_end end) (end_of_bits end) (named_end end)
+unfolding named_end end_of_bits
 IsCipherCircuit-named_end end =
-    IsCipherCircuit-strong (named_end end) (size_end end) (end_of_bits end) (named_end end) refl (IsCircuit-named_end end) (size-named_end end)
-    (IsStrong-named_end end) (plain-named_end end)
+    IsCipherCircuit-fenced 384 (end_stage end) _ _ (CameOut-end end) (size_end end) (end_of_bits end) (size-named_end end) (IsWithinLimits-named_end end)
+    (λ x long. ap (lowest 128) (end_computes end x long))

@@ -7,9 +7,10 @@ use Rattle.std.proofs.lemmas.Nat.{div-mul-add, mod-mul-add, xor_block}
 use Rattle.mask_bits.specs.Reading.{number}
 use Rattle.mask_bits.proofs.Numbers.{number-append, number-lt}
 use Rattle.mask_circuit.specs.Value.{xor, value_at}
+use Rattle.mask_laws.proofs.Bits.{xor-false}
+use Rattle.mask_parts.proofs.Ranges.{elements}
 use Rattle.mask_parts.proofs.WordNumbers.{number-xor}
 use Rattle.mask_chaskey.specs.Chaskey.{doubled}
-use Rattle.mask_chaskey.proofs.BlockNumbers.{elements}
 
 -- what falls out is the top bit
 doubled-parts : (low : ℕ) (top : Bool) → low < 2 ^ 127 → doubled (low + 2 ^ 127 * (if top then 1 else 0)) ≡ bit_xor (2 * low) (if top then 0x87 else 0)
@@ -26,10 +27,6 @@ doubled-parts low false small =
     let quotient : (low + 2 ^ 127 * 0) / 2 ^ 127 ≡ 0 = rw whole (div-mul-add 0 (2 ^ 127) low small) in
     let rest : 2 * (low + 2 ^ 127 * 0) % 2 ^ 128 ≡ 2 * low = rw twice (mod-mul-add 0 (2 ^ 128) (2 * low) (omega arith)) in
     rw (quotient, rest) refl
-
-xor-false : (b : Bool) → xor b false ≡ b
-xor-false true = refl
-xor-false false = refl
 
 -- the top bit at places 0, 1, 2 and 7
 abbrev spread : Bool → List Bool

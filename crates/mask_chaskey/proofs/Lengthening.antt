@@ -4,21 +4,15 @@ use Rattle.std.specs.List.{concat}
 use Rattle.mask_circuit.specs.Netlist.{Netlist, value_count}
 use Rattle.mask_parts.specs.Drafts.{Grows}
 use Rattle.mask_parts.specs.Tables.{part_gates, with_part}
+use Rattle.mask_parts.specs.Turns.{in_turn}
 use Rattle.mask_parts.specs.Words32.{xor32_gates, with_xor32, sum32_gates, with_sum32}
 use Rattle.mask_parts.proofs.Growing.{Grows-refl, Grows-trans, Grows-with_gates}
+use Rattle.mask_parts.proofs.Turns.{Grows-all}
+use Rattle.mask_parts.proofs.WordPassing.{Grows-xor32, Grows-sum32}
 use Rattle.mask_chaskey.specs.declared.doubling.End.{End}
 use Rattle.mask_chaskey.specs.declared.doubling.End.TheVariants.{Whole, Short}
-use Rattle.mask_chaskey.specs.Chaskey.{in_turn}
 use Rattle.mask_chaskey.specs.NamedChaskey.{doubling_steps, with_doubled, with_last_mask}
 use Rattle.mask_chaskey.specs.Rounds.{Stage, with_word_xored, with_block_xored, with_mixed, with_turned, with_round, with_permutation}
-
-pub Grows-xor32 : (c : Netlist) (x y : List ℕ) → Grows c (with_xor32 c x y)
-unfolding with_xor32
-Grows-xor32 c x y = Grows-with_gates c (xor32_gates (value_count c) x y)
-
-pub Grows-sum32 : (c : Netlist) (x y : List ℕ) → Grows c (with_sum32 c x y)
-unfolding with_sum32
-Grows-sum32 c x y = Grows-with_gates c (sum32_gates (value_count c) x y)
 
 -- STAGES
 
@@ -29,22 +23,6 @@ Lengthens s t = Grows s.draft t.draft
 pub Lengthens-trans : (s t u : Stage) → Lengthens s t → Lengthens t u → Lengthens s u
 Lengthens-trans s t u one two = Grows-trans s.draft t.draft u.draft one two
 
--- some steps before others
-module _ (f : ℕ → Stage → Stage) (step : (i : ℕ) (s : Stage) → Lengthens s (f i s)) where
-  Lengthens-more : (i k : ℕ) (s : Stage) → Lengthens (in_turn f i s) (in_turn f (k + i) s)
-  unfolding in_turn
-  Lengthens-more i zero s = let e : 0 + i ≡ i = omega arith in rw e (Grows-refl _)
-  Lengthens-more i (suc k) s =
-      let e : suc k + i ≡ suc (k + i) = omega arith in
-      rw e (Grows-trans _ _ _ (Lengthens-more i k s) (step (k + i) (in_turn f (k + i) s)))
-
-  pub Lengthens-in_turn : (i n : ℕ) (s : Stage) → i ≤ n → Lengthens (in_turn f i s) (in_turn f n s)
-  Lengthens-in_turn i n s few = let e : n - i + i ≡ n = omega arith in rw e at (Lengthens-more i (n - i) s)
-
-  pub Lengthens-all : (n : ℕ) (s : Stage) → Lengthens s (in_turn f n s)
-  unfolding in_turn
-  Lengthens-all n s = Lengthens-in_turn 0 n s (omega arith)
-
 -- THE STEPS
 
 pub Lengthens-word_xored : (ys : List (List ℕ)) (k : ℕ) (s : Stage) → Lengthens s (with_word_xored ys k s)
@@ -53,7 +31,7 @@ Lengthens-word_xored ys k s = Grows-xor32 s.draft _ _
 
 pub Lengthens-block_xored : (ys : List (List ℕ)) (s : Stage) → Lengthens s (with_block_xored ys s)
 unfolding with_block_xored
-Lengthens-block_xored ys s = Lengthens-all (with_word_xored ys) (Lengthens-word_xored ys) 4 s
+Lengthens-block_xored ys s = Grows-all (λ (t : Stage). t.draft) (with_word_xored ys) (Lengthens-word_xored ys) 4 s
 
 pub Lengthens-mixed : (i j k : ℕ) (s : Stage) → Lengthens s (with_mixed i j k s)
 unfolding with_mixed
@@ -114,4 +92,4 @@ Lengthens-round s = Lengthens-trans s (first_mixed s) (with_round s) (Lengthens-
 
 pub Lengthens-permutation : (s : Stage) → Lengthens s (with_permutation s)
 unfolding with_permutation
-Lengthens-permutation s = Lengthens-all (λ i. with_round) (λ i. Lengthens-round) 12 s
+Lengthens-permutation s = Grows-all (λ (t : Stage). t.draft) (λ i. with_round) (λ i. Lengthens-round) 12 s

@@ -5,11 +5,12 @@ use Rattle.mask_circuit.specs.declared.gates.Gate.TheVariants.{Xor, And, Ref}
 use Rattle.mask_circuit.specs.Netlist.{only_inputs}
 use Rattle.mask_parts.specs.Drafts.{with_gates}
 use Rattle.mask_parts.specs.Tables.{with_part}
-use Rattle.mask_parts.specs.Words32.{xor32_steps, xor32_gates, with_xor32, xor32_results, sum32_steps, sum32_gates, with_sum32, sum32_results, rotated32}
+use Rattle.mask_parts.specs.Turns.{in_turn}
+use Rattle.mask_parts.specs.Words32.{xor32_steps, xor32_gates, with_xor32, xor32_results, sum32_steps, sum32_gates, with_sum32, sum32_results, rotated32, word}
 use Rattle.mask_chaskey.specs.declared.doubling.End.TheVariants.{Whole, Short}
-use Rattle.mask_chaskey.specs.Chaskey.{in_turn, doubled, block_at, blocks_before, last_bytes, end_of, padded}
+use Rattle.mask_chaskey.specs.Chaskey.{doubled, block_at, blocks_before, last_bytes, end_of, padded}
 use Rattle.mask_chaskey.specs.NamedChaskey.{four_words, block_from, doubling_steps, doubled_values, with_doubled}
-use Rattle.mask_chaskey.specs.Rounds.{stage, word, with_word_xored, with_block_xored, with_mixed, turned_block, with_turned, with_round}
+use Rattle.mask_chaskey.specs.Rounds.{stage, with_word_xored, with_block_xored, with_mixed, turned_block, with_turned, with_round}
 
 -- the first gates of a step: bit 0 of the state and of the block
 first_gates : take 2 (with_block_xored (block_from 128) (stage (only_inputs 256) (block_from 0))).draft.gates ≡ Xor 0 128 ∷ Xor 1 129 ∷ []

@@ -6,17 +6,18 @@ use Rattle.std.proofs.lemmas.List.Elements.{All-get_or, All-set, All-append, All
 use Rattle.mask_circuit.specs.Netlist.{Netlist, value_count}
 use Rattle.mask_circuit.specs.Value.{value_at}
 use Rattle.mask_parts.specs.Tables.{part_gates, part_usable, is_part, with_part}
-use Rattle.mask_parts.specs.Words32.{with_xor32, xor32_results, with_sum32, sum32_results, rotated32}
+use Rattle.mask_parts.specs.Turns.{in_turn}
+use Rattle.mask_parts.specs.Words32.{with_xor32, xor32_results, with_sum32, sum32_results, rotated32, word}
+use Rattle.mask_parts.proofs.Counting.{Counts}
+use Rattle.mask_parts.proofs.Passing.{IsSound, IsReady, Passes, Passes-refl, Passes-trans, Passes-as, Passes-part, IsReady-part}
+use Rattle.mask_parts.proofs.Turns.{RunsTo, Runs-trans, Runs-as, Runs-in_turn}
+use Rattle.mask_parts.proofs.WordPassing.{IsWord, IsWord-later, Passes-xor32, word-xor32, Passes-sum32, word-sum32, IsWord-rotated, words-later, word-at}
 use Rattle.mask_chaskey.specs.declared.doubling.End.{End}
 use Rattle.mask_chaskey.specs.declared.doubling.End.TheVariants.{Whole, Short}
-use Rattle.mask_chaskey.specs.Chaskey.{in_turn}
 use Rattle.mask_chaskey.specs.NamedChaskey.{doubling_steps, doubled_values, with_doubled, with_last_mask}
-use Rattle.mask_chaskey.specs.Rounds.{Stage, word, with_word_xored, with_block_xored, with_mixed, turned_block, with_turned, with_round, with_permutation}
+use Rattle.mask_chaskey.specs.Rounds.{Stage, with_word_xored, with_block_xored, with_mixed, turned_block, with_turned, with_round, with_permutation}
 use Rattle.mask_chaskey.proofs.BlockNumbers.{length-four_words, All-four_words, length-concat, All-concat}
-use Rattle.mask_chaskey.proofs.Counting.{Counts}
 use Rattle.mask_chaskey.proofs.Lengthening.{first_mixed, second_mixed, third_mixed, last_mixed}
-use Rattle.mask_chaskey.proofs.Passing.{IsSound, IsReady, IsWord, IsWord-later, Passes, Passes-refl, Passes-trans, Passes-as, Passes-part, IsReady-part}
-use Rattle.mask_chaskey.proofs.WordPassing.{Passes-xor32, word-xor32, Passes-sum32, word-sum32, IsWord-rotated}
 
 -- the stage is sound, and its block is four words that further gates may take
 pub record IsFine (T : Type 0) (s : Stage) : Type 0 where
@@ -25,38 +26,15 @@ pub record IsFine (T : Type 0) (s : Stage) : Type 0 where
   pub words : All (IsWord T s.draft) s.block
 
 -- the stage t is fine too, and its draft has v values more, of which p are products and p refreshes
-pub record Runs (T : Type 0) (s t : Stage) (v p : ℕ) : Type 0 where
-  pub passes : Passes T s.draft t.draft v p
-  pub fine : IsFine T t
+abbrev pub Runs : (T : Type 0) (s t : Stage) (v p : ℕ) → Type 0
+Runs T s t v p = RunsTo T (λ (u : Stage). u.draft) (IsFine T) s t v p
 
--- word k of a list of words
-pub word-at : (T : Type 0) (c : Netlist) (ws : List (List ℕ)) (k : ℕ) → k < length ws → All (IsWord T c) ws → IsWord T c (word ws k)
-word-at T c ws k inside all = All-get_or (IsWord T c) ws k [] inside all
-
-pub All-later : (T : Type 0) (c d : Netlist) (v p : ℕ) (ws : List (List ℕ)) → Passes T c d v p → All (IsWord T c) ws → All (IsWord T d) ws
-All-later T c d v p ws passes all = All-weaker (IsWord T c) (IsWord T d) (λ w is. IsWord-later T c d v p w passes is) ws all
+-- n steps, each of which adds so much to a stage that came out of the first one
+pub Runs-steps : (T : Type 0) (f : ℕ → Stage → Stage) (v p n : ℕ) (s : Stage) → ((i : ℕ) (t : Stage) (w q : ℕ) → i < n → Runs T s t w q → Runs T t (f i t) v p)
+    → (m : ℕ) → m ≤ n → IsFine T s → Runs T s (in_turn f m s) (m * v) (m * p)
+Runs-steps T = Runs-in_turn T (λ (u : Stage). u.draft) (IsFine T) (λ u fine. fine.sound)
 
 module _ (T : Type 0) where
-  pub Runs-refl : (s : Stage) → IsFine T s → Runs T s s 0 0
-  Runs-refl s fine = record { passes = Passes-refl T s.draft fine.sound; fine = fine }
-
-  pub Runs-trans : (s t u : Stage) (v p w q : ℕ) → Runs T s t v p → Runs T t u w q → Runs T s u (v + w) (p + q)
-  Runs-trans s t u v p w q one two = record { passes = Passes-trans T s.draft t.draft u.draft v p w q one.passes two.passes; fine = two.fine }
-
-  pub Runs-as : (s t : Stage) (v p w q : ℕ) → v ≡ w → p ≡ q → Runs T s t v p → Runs T s t w q
-  Runs-as s t v p w q same same' runs = record { passes = Passes-as T s.draft t.draft v p w q same same' runs.passes; fine = runs.fine }
-
-  -- n steps, each of which adds so much to a stage that came out of the first one
-  pub Runs-in_turn : (f : ℕ → Stage → Stage) (v p n : ℕ) (s : Stage)
-      → ((i : ℕ) (t : Stage) (w q : ℕ) → i < n → Runs T s t w q → Runs T t (f i t) v p)
-      → (m : ℕ) → m ≤ n → IsFine T s → Runs T s (in_turn f m s) (m * v) (m * p)
-  unfolding in_turn
-  Runs-in_turn f v p n s step zero few fine = Runs-as s s 0 0 _ _ (omega arith) (omega arith) (Runs-refl s fine)
-  Runs-in_turn f v p n s step (suc m) few fine =
-      let before = Runs-in_turn f v p n s step m (omega arith) fine in
-      Runs-as _ _ _ _ _ _ (omega arith) (omega arith)
-      (Runs-trans s (in_turn f m s) (f m (in_turn f m s)) (m * v) (m * p) v p before (step m (in_turn f m s) (m * v) (m * p) (omega arith) before))
-
   -- A BLOCK XORED
 
   pub Runs-word_xored : (ys : List (List ℕ)) (k : ℕ) (s : Stage) → k < 4 → length ys ≡ 4 → All (IsWord T s.draft) ys → IsFine T s → Runs T s (with_word_xored ys k s) 32 0
@@ -71,15 +49,15 @@ module _ (T : Type 0) where
         fine = record {
           sound = passes.sound;
           long = length-set s.block k _ ∙ fine.long;
-          words = All-set (IsWord T d) s.block k _ (word-xor32 T s.draft (word s.block k) (word ys k) fine.sound x y) (All-later T s.draft d 32 0 s.block passes fine.words);
+          words = All-set (IsWord T d) s.block k _ (word-xor32 T s.draft (word s.block k) (word ys k) fine.sound x y) (words-later T s.draft d 32 0 s.block passes fine.words);
         };
       }
 
   pub Runs-words_xored : (ys : List (List ℕ)) (s : Stage) → length ys ≡ 4 → All (IsWord T s.draft) ys → IsFine T s → (m : ℕ) → m ≤ 4
       → Runs T s (in_turn (with_word_xored ys) m s) (m * 32) (m * 0)
   Runs-words_xored ys s four all fine m few =
-      Runs-in_turn (with_word_xored ys) 32 0 4 s
-      (λ k t w q inside runs. Runs-word_xored ys k t inside four (All-later T s.draft t.draft w q ys runs.passes all) runs.fine) m few fine
+      Runs-steps T (with_word_xored ys) 32 0 4 s
+      (λ k t w q inside runs. Runs-word_xored ys k t inside four (words-later T s.draft t.draft w q ys runs.passes all) runs.fine) m few fine
 
   pub Runs-block_xored : (ys : List (List ℕ)) (s : Stage) → length ys ≡ 4 → All (IsWord T s.draft) ys → IsFine T s → Runs T s (with_block_xored ys s) 128 0
   unfolding with_block_xored
@@ -110,7 +88,7 @@ module _ (T : Type 0) where
           sound = both.sound;
           long = length-set (slice_set s.block i sum) j _ ∙ length-set s.block i sum ∙ fine.long;
           words = All-set (IsWord T e) (slice_set s.block i sum) j _ made
-              (All-set (IsWord T e) s.block i sum (IsWord-later T d e 32 0 sum two sum_is) (All-later T c e 217 31 s.block both fine.words));
+              (All-set (IsWord T e) s.block i sum (IsWord-later T d e 32 0 sum two sum_is) (words-later T c e 217 31 s.block both fine.words));
         };
       }
 
@@ -152,7 +130,7 @@ module _ (T : Type 0) where
       Runs-trans s (last_mixed s) (with_turned 2 (last_mixed s)) 868 124 0 0 before (Runs-turned 2 (last_mixed s) (lit< tt) before.fine)
 
   pub Runs-rounds : (s : Stage) → IsFine T s → (m : ℕ) → Runs T s (in_turn (λ i. with_round) m s) (m * 868) (m * 124)
-  Runs-rounds s fine m = Runs-in_turn (λ i. with_round) 868 124 m s (λ i t w q inside runs. Runs-round t runs.fine) m (omega arith) fine
+  Runs-rounds s fine m = Runs-steps T (λ i. with_round) 868 124 m s (λ i t w q inside runs. Runs-round t runs.fine) m (omega arith) fine
 
   pub Runs-permutation : (s : Stage) → IsFine T s → Runs T s (with_permutation s) 10_416 1488
   unfolding with_permutation
@@ -239,4 +217,4 @@ unfolding with_last_mask
 Runs-last_mask T Whole s fine = Runs-doubled T s fine
 Runs-last_mask T Short s fine =
     let once = Runs-doubled T s fine in
-    Runs-trans T s (with_doubled s) (with_doubled (with_doubled s)) 3 0 3 0 once (Runs-doubled T (with_doubled s) once.fine)
+    Runs-trans s (with_doubled s) (with_doubled (with_doubled s)) 3 0 3 0 once (Runs-doubled T (with_doubled s) once.fine)

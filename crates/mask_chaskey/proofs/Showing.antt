@@ -10,52 +10,25 @@ use Rattle.mask_circuit.specs.Netlist.{Netlist, value_count}
 use Rattle.mask_circuit.specs.Value.{xor, value_at}
 use Rattle.mask_parts.specs.Drafts.{with_gates, with_outputs, Grows}
 use Rattle.mask_parts.specs.Tables.{part_gates, with_part}
-use Rattle.mask_parts.specs.Words32.{with_xor32, xor32_results, with_sum32, sum32_results, rotated32, rol32}
+use Rattle.mask_parts.specs.Turns.{in_turn}
+use Rattle.mask_parts.specs.Words32.{with_xor32, xor32_results, with_sum32, sum32_results, rotated32, rol32, words_of, joined, word}
 use Rattle.mask_parts.proofs.Adding.{sum32-solved}
-use Rattle.mask_parts.proofs.Solving.{Solves, Solves-left, Solves-right}
+use Rattle.mask_parts.proofs.Joining.{words_of-joined}
+use Rattle.mask_parts.proofs.Solving.{Solves, Solves-left, Solves-right, Solved, Solved-with_gates, Solved-Grows}
 use Rattle.mask_parts.proofs.WordFitting.{value_count-with_sum32, length-sum32_results, length-rotated32}
 use Rattle.mask_parts.proofs.WordNumbers.{number-rotated32}
+use Rattle.mask_parts.proofs.WordPassing.{Grows-xor32, IsWord, word-at}
+use Rattle.mask_parts.proofs.WordShowing.{shown, shown-lt, shown-xor32, shown-sum32, shown-rotated, shown-word, all_shown-lt}
 use Rattle.mask_parts.proofs.Xoring.{xor32-solved}
 use Rattle.mask_chaskey.specs.declared.doubling.End.{End}
 use Rattle.mask_chaskey.specs.declared.doubling.End.TheVariants.{Whole, Short}
-use Rattle.mask_chaskey.specs.Chaskey.{mixed, turned, round, in_turn, permuted, words_of, joined, permutation, doubled, last_mask}
+use Rattle.mask_chaskey.specs.Chaskey.{mixed, turned, round, permuted, permutation, doubled, last_mask}
 use Rattle.mask_chaskey.specs.NamedChaskey.{four_words, doubling_steps, doubled_values, with_doubled, with_last_mask}
-use Rattle.mask_chaskey.specs.Rounds.{Stage, word, with_word_xored, with_block_xored, with_mixed, turned_block, with_turned, with_round, with_permutation}
-use Rattle.mask_chaskey.proofs.BlockNumbers.{shown, shown-lt, shown-concat, words_of-joined, concat-four_words, word_xored, joined-xored}
+use Rattle.mask_chaskey.specs.Rounds.{Stage, with_word_xored, with_block_xored, with_mixed, turned_block, with_turned, with_round, with_permutation}
+use Rattle.mask_chaskey.proofs.BlockNumbers.{shown-concat, concat-four_words, word_xored, joined-xored}
 use Rattle.mask_chaskey.proofs.DoubledNumbers.{number-doubled}
-use Rattle.mask_chaskey.proofs.Lengthening.{Grows-xor32, Lengthens-word_xored, Lengthens-mixed, Lengthens-turned, Lengthens-doubled, first_mixed, second_mixed, third_mixed, last_mixed, Lengthens-round}
-use Rattle.mask_chaskey.proofs.Passing.{IsWord}
-use Rattle.mask_chaskey.proofs.Running.{IsFine, word-at, Runs-words_xored, Runs-mixed, Runs-first, Runs-second, Runs-third, Runs-last, Runs-rounds, length-us, length-doubled_values, Runs-doubled}
-
--- the bits vs solve all gates of the draft
-abbrev pub Solved : List Bool → Netlist → Type 0
-Solved vs c = Solves vs c.inputs c.gates
-
-pub Solved-with_gates : (vs : List Bool) (c : Netlist) (gs : List Gate) → Solved vs (with_gates c gs) → Solved vs c × Solves vs (value_count c) gs
-unfolding with_gates
-Solved-with_gates vs c gs solved = (Solves-left vs c.inputs c.gates gs solved, Solves-right vs c.inputs c.gates gs solved)
-
-pub Solved-Grows : (vs : List Bool) (c d : Netlist) → Grows c d → Solved vs d → Solved vs c
-unfolding with_outputs
-Solved-Grows vs c d grows solved = (Solved-with_gates vs c grows.gates (rw grows.grown at solved)).0
-
--- WORDS
-
-module _ (vs : List Bool) (c : Netlist) (x y : List ℕ) (x_long : length x ≡ 32) (y_long : length y ≡ 32) where
-  shown-xor32 : Solved vs (with_xor32 c x y) → shown vs (xor32_results (value_count c)) ≡ bit_xor (shown vs x) (shown vs y)
-  unfolding with_xor32
-  shown-xor32 solved = xor32-solved vs (value_count c) x y x_long y_long (Solved-with_gates vs c _ solved).1
-
-  shown-sum32 : Solved vs (with_sum32 c x y) → shown vs (sum32_results (value_count c)) ≡ (shown vs x + shown vs y) % 2 ^ 32
-  unfolding with_sum32
-  shown-sum32 solved = sum32-solved vs (value_count c) x y x_long y_long (Solved-with_gates vs c _ solved).1
-
-shown-rotated : (vs : List Bool) (k : ℕ) (w : List ℕ) → k < 32 → length w ≡ 32 → shown vs (rotated32 k w) ≡ rol32 k (shown vs w)
-shown-rotated vs k w small long = number-rotated32 (value_at vs) k w small long
-
--- the number of a word in a list, and of none
-shown-word : (vs : List Bool) (ws : List (List ℕ)) (k : ℕ) → shown vs (word ws k) ≡ slice_index (map (shown vs) ws) k
-shown-word vs ws k = sym (get_or-map (shown vs) ws k [])
+use Rattle.mask_chaskey.proofs.Lengthening.{Lengthens-word_xored, Lengthens-mixed, Lengthens-turned, Lengthens-doubled, first_mixed, second_mixed, third_mixed, last_mixed, Lengthens-round}
+use Rattle.mask_chaskey.proofs.Running.{IsFine, Runs-words_xored, Runs-mixed, Runs-first, Runs-second, Runs-third, Runs-last, Runs-rounds, length-us, length-doubled_values, Runs-doubled}
 
 -- BLOCKS
 
@@ -124,7 +97,8 @@ module _ (T : Type 0) (vs : List Bool) where
   pub shown-permutation : (s : Stage) → IsFine T s → Solved vs (with_permutation s).draft → block_shown vs (with_permutation s) ≡ permutation (block_shown vs s)
   unfolding with_permutation permutation permuted
   shown-permutation s fine solved =
-      let back : words_of 4 (block_shown vs s) ≡ words_shown vs s = rw fine.long at (words_of-joined T vs s.draft s.block fine.words) in
+      let shown_long : length (words_shown vs s) ≡ 4 = length-map s.block (shown vs) ∙ fine.long in
+      let back : words_of 4 (block_shown vs s) ≡ words_shown vs s = rw shown_long at (words_of-joined (words_shown vs s) (all_shown-lt T vs s.draft s.block fine.words)) in
       ap joined (shown-rounds s fine 12 solved ∙ ap (in_turn (λ i. round) 12) (sym back))
 
   -- A BLOCK XORED
@@ -142,15 +116,12 @@ module _ (T : Type 0) (vs : List Bool) where
         let made = shown-xor32 vs t.draft (word t.block m) (word ys m) (long-at t m few t_fine) y_long solved in
         map-set (shown vs) t.block m _ ∙ rw (made, shown-word vs t.block m, shown-word vs ys m, before) refl
 
-    small : (c : Netlist) (ws : List (List ℕ)) → All (IsWord T c) ws → All (λ a. a < 2 ^ 32) (map (shown vs) ws)
-    small c ws words = All-map (λ a. a < 2 ^ 32) (shown vs) ws (λ k d inside. shown-lt T vs c _ (words k d inside))
-
     pub shown-block_xored : Solved vs (with_block_xored ys s).draft → block_shown vs (with_block_xored ys s) ≡ bit_xor (block_shown vs s) (joined (map (shown vs) ys))
     unfolding with_block_xored
     shown-block_xored solved =
         ap joined (shown-words_xored 4 (omega arith) solved)
         ∙ joined-xored (words_shown vs s) (map (shown vs) ys) (length-map s.block (shown vs) ∙ fine.long) (length-map ys (shown vs) ∙ four)
-        (small s.draft s.block fine.words) (small s.draft ys all)
+        (all_shown-lt T vs s.draft s.block fine.words) (all_shown-lt T vs s.draft ys all)
 
   -- DOUBLING
 

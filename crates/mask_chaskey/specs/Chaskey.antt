@@ -6,7 +6,8 @@ use Rattle.std.specs.Prelude.{ℕ, zero, suc, ◌+◌, ◌-◌, ◌*◌, ◌/◌
 use Rattle.mask_bits.specs.Reading.{low, number}
 use Rattle.mask_chaskey.specs.declared.doubling.End.{End}
 use Rattle.mask_chaskey.specs.declared.doubling.End.TheVariants.{Whole, Short}
-use Rattle.mask_parts.specs.Words32.{rol32}
+use Rattle.mask_parts.specs.Turns.{in_turn}
+use Rattle.mask_parts.specs.Words32.{rol32, words_of, joined}
 
 -- THE PERMUTATION
 
@@ -28,24 +29,9 @@ round v =
     let third = mixed 0 3 13 second in
     turned 2 (mixed 2 1 7 third)
 
--- steps 0 to n - 1, one after another
-unfoldable pub in_turn : {A : Type 0} → (ℕ → A → A) → ℕ → A → A
-in_turn step zero a = a
-in_turn step (suc n) a = step n (in_turn step n a)
-
 -- the twelve rounds
 unfoldable pub permuted : List ℕ → List ℕ
 permuted v = in_turn (λ i. round) 12 v
-
--- n words of a number, the lowest first
-unfoldable pub words_of : ℕ → ℕ → List ℕ
-words_of zero a = []
-words_of (suc n) a = a % 2 ^ 32 ∷ words_of n (a / 2 ^ 32)
-
--- the number of words of which the first is the lowest
-unfoldable pub joined : List ℕ → ℕ
-joined [] = 0
-joined (w ∷ ws) = w + 2 ^ 32 * joined ws
 
 -- the permutation of a block as a number
 unfoldable pub permutation : ℕ → ℕ

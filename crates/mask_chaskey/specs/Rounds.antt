@@ -4,8 +4,8 @@
 -- appends its gates to a draft and says which values stand for the block afterwards.
 use Rattle.std.specs.Prelude.{◌≡◌, ℕ, ◌+◌, ◌<◌, List, [], length, All, slice_index_or, slice_set}
 use Rattle.mask_circuit.specs.Netlist.{Netlist, value_count}
-use Rattle.mask_parts.specs.Words32.{with_xor32, xor32_results, with_sum32, sum32_results, rotated32}
-use Rattle.mask_chaskey.specs.Chaskey.{in_turn}
+use Rattle.mask_parts.specs.Turns.{in_turn}
+use Rattle.mask_parts.specs.Words32.{with_xor32, xor32_results, with_sum32, sum32_results, rotated32, word}
 
 -- a draft, and the values that stand for a block
 pub record Stage : Type 0 where
@@ -14,10 +14,6 @@ pub record Stage : Type 0 where
 
 unfoldable pub stage : Netlist → List (List ℕ) → Stage
 stage c block = record { draft = c; block = block }
-
--- word k of these
-abbrev pub word : List (List ℕ) → ℕ → List ℕ
-word ws k = slice_index_or ws k []
 
 -- word k of the block xored with that of another block
 unfoldable pub with_word_xored : List (List ℕ) → ℕ → Stage → Stage
@@ -58,7 +54,3 @@ with_round s =
 -- the twelve rounds
 unfoldable pub with_permutation : Stage → Stage
 with_permutation s = in_turn (λ i. with_round) 12 s
-
--- these are words of values of the draft
-abbrev pub AreWordsOf : Netlist → List (List ℕ) → Type 0
-AreWordsOf c ws = All (λ w. (length w ≡ 32) × All (λ u. u < value_count c) w) ws

@@ -4,11 +4,12 @@ ghost use Rattle.std.specs.Prelude.{◌≡◌, ℕ, ◌+◌, ◌<◌, ◌≤◌,
 ghost use Rattle.std.specs.List.{concat};
 ghost use Rattle.mask_circuit.specs.Netlist.{value_count};
 ghost use Rattle.mask_parts.specs.Drafts.{Lays};
+ghost use Rattle.mask_parts.specs.Words32.{AreWordsOf};
 ghost use Rattle.mask_chaskey.specs.NamedChaskey.{four_words, block_from};
-ghost use Rattle.mask_chaskey.specs.Rounds.{stage, with_block_xored, AreWordsOf};
+ghost use Rattle.mask_chaskey.specs.Rounds.{stage, with_block_xored};
 
 use mask_circuit::{Builder, CircuitError};
-use mask_parts::xor32;
+use mask_parts::{number_from, xor32};
 
 /// The values of a word's bits, the lowest first.
 pub(crate) type Word = [u32; 32];
@@ -52,9 +53,7 @@ pub(crate) fn block_from(first: u32) -> [Word; 4]
     ensures { result ≡ block_from first }
 {
     let mut values = [0; 128];
-    for k in 0..128 {
-        values[k] = first + k as u32;
-    }
+    number_from(&mut values, first);
     four_words(&values)
 }
 

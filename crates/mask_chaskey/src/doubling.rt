@@ -3,8 +3,9 @@
 ghost use Rattle.std.specs.Prelude.{◌≡◌, ℕ, ◌<◌, List, length, All};
 ghost use Rattle.mask_circuit.specs.Netlist.{value_count};
 ghost use Rattle.mask_parts.specs.Drafts.{Lays};
+ghost use Rattle.mask_parts.specs.Words32.{AreWordsOf};
 ghost use Rattle.mask_chaskey.specs.NamedChaskey.{with_doubled, with_last_mask};
-ghost use Rattle.mask_chaskey.specs.Rounds.{stage, AreWordsOf};
+ghost use Rattle.mask_chaskey.specs.Rounds.{stage};
 
 use crate::blocks::{Word, all_values, four_words};
 use mask_circuit::{Builder, CircuitError};

@@ -3,7 +3,8 @@
 ghost use Rattle.std.specs.Prelude.{◌≡◌, ℕ, ◌<◌, List, length, All};
 ghost use Rattle.mask_circuit.specs.Netlist.{value_count};
 ghost use Rattle.mask_parts.specs.Drafts.{Lays};
-ghost use Rattle.mask_chaskey.specs.Rounds.{stage, with_mixed, turned_block, with_round, AreWordsOf};
+ghost use Rattle.mask_parts.specs.Words32.{AreWordsOf};
+ghost use Rattle.mask_chaskey.specs.Rounds.{stage, with_mixed, turned_block, with_round};
 
 use crate::blocks::Word;
 use mask_circuit::{Builder, CircuitError};

@@ -2,7 +2,8 @@
 use Rattle.std.proofs.Common.{ℕ, zero, suc, ◌*◌, List, [], ◌∷◌, take, subst}
 use Rattle.mask_tasks.specs.declared.tasks.Task.{Task}
 use Rattle.mask_tasks.specs.Tasks.{key_bytes}
-use Rattle.mask_trace.specs.Steps.{Step, state_after, IsStrongPlan}
+use Rattle.mask_trace.specs.Steps.{IsStrongPlan}
+use Rattle.mask_trace.proofs.Beginnings.{IsStrongPlan-take}
 use Rattle.mask_trace.proofs.Showing.{plans_are_runs, plans_are_private}
 use Rattle.mask_modes.specs.Steps.{blocks}
 use Rattle.mask_modes.proofs.Blocks.{blocks_are_long}
@@ -14,13 +15,6 @@ use Rattle.mask_ciphers.specs.Tasks.{method_of, plan}
 use Rattle.mask_ciphers.specs.Laws.{IsSound, PlansAreStrong, RunsArePrivate}
 use Rattle.mask_ciphers.proofs.Enciphering.{tasks_encipher}
 use Rattle.mask_ciphers.proofs.KeyBits.{key_in_bytes}
-
--- a beginning of a strong plan is a strong plan
-IsStrongPlan-take : (k s count : ℕ) (steps : List Step) → IsStrongPlan k s steps → IsStrongPlan k s (take count steps)
-IsStrongPlan-take k s zero steps strong = tt
-IsStrongPlan-take k s (suc count) [] strong = tt
-IsStrongPlan-take k s (suc count) (step ∷ steps) strong =
-    (strong.0, IsStrongPlan-take k (state_after step.keeps step.circuit s) count steps strong.1)
 
 plan_by_method : (method : Method) (message : List ℕ) → IsSound method → IsStrongPlan (key_width method) 0 (methods.plan method message)
 plan_by_method (InCounterMode m cipher) message is =

@@ -12,7 +12,8 @@ use Rattle.mask_tasks.specs.declared.sizes.LeaSize.{LeaSize}
 use Rattle.mask_tasks.specs.declared.sizes.LeaSize.TheVariants as lea_size
 use Rattle.mask_tasks.specs.declared.tasks.Task.TheVariants.{Present, Lea, Trivium}
 use Rattle.mask_tasks.specs.Sizes.{present_bytes, lea_bytes}
-use Rattle.mask_parts.specs.CipherCircuits.{Size, size_of}
+use Rattle.mask_parts.specs.CipherCircuits.{gate_bits}
+use Rattle.mask_parts.proofs.Drawing.{draws-gates}
 use Rattle.mask_present.specs.NamedPresent.{named_present}
 use Rattle.mask_present.proofs.Counting.{size-named_present}
 use Rattle.mask_lea.specs.NamedLea.{named_lea}
@@ -24,24 +25,10 @@ use Rattle.mask_modes.specs.CounterMode.{block_count}
 use Rattle.mask_modes.specs.Steps.{Mode, Cipher, Enciphers, steps_of}
 use Rattle.mask_modes.proofs.TapeBits.{run_bits}
 use Rattle.mask_ciphers.specs.Tasks.{lea_cipher, lea_mode, present_cipher, present_mode}
-use Rattle.mask_ciphers.specs.Totals.{gate_bits, present_gates, present_key_gates, lea_gates, lea_key_gates, counter_bits, total}
+use Rattle.mask_ciphers.specs.Totals.{present_gates, present_key_gates, lea_gates, lea_key_gates, counter_bits, total}
 use Rattle.mask_ciphers.specs.Laws.{RunsDrawTotals}
 use Rattle.mask_streams.proofs.TapeBits.{run_bits as stream_bits}
 use Rattle.mask_ciphers.proofs.Enciphering.{tasks_encipher}
-
--- d + 1 shares have so many pairs
-pairs_of_shares : (d : ℕ) → gate_bits d ≡ length (pairs (suc d))
-pairs_of_shares d =
-    let one_less : suc d - 1 ≡ d = omega arith in
-    let twice : d * suc d ≡ suc d * (suc d - 1) = rw one_less (omega arith) in
-    ap (λ (n : ℕ). n / 2) twice ∙ sym (length-pairs (suc d))
-
--- the products and refreshes of a circuit of this size draw a bit for each pair
-draws-gates : (c : Netlist) (size : Size) (d gates : ℕ) → size_of c ≡ size → size.products + size.refreshes ≡ gates → draws c (suc d) ≡ gates * gate_bits d
-unfolding size_of
-draws-gates c size d gates is all =
-    let count : product_count c + refresh_count c ≡ gates = ap (λ (s : Size). s.products + s.refreshes) is ∙ all in
-    draws-product c (suc d) (gate_bits d) (pairs_of_shares d) ∙ ap (λ (n : ℕ). gate_bits d * n) count ∙ mul_comm (gate_bits d) gates
 
 draws-refreshing : (n d : ℕ) → draws (refreshing n) (suc d) ≡ n * gate_bits d
 draws-refreshing n d = draws-gates (refreshing n) _ d n (size-refreshing n) (omega arith)

@@ -3,8 +3,10 @@
 use Rattle.std.proofs.Common.{◌≡◌, ℕ, ◌-◌, ◌^◌, List, ◌++◌, [], ◌∷◌, replicate, refl}
 use Rattle.mask_tasks.specs.declared.sizes.LeaSize.TheVariants.{K128, K192, K256}
 use Rattle.mask_tasks.specs.declared.tasks.Task.TheVariants.{Lea}
-use Rattle.mask_lea.specs.Lea.{deltas, delta, place, in_turn, word_updated, key_updated, round_key, mixed, block_mixed, round, lea_words, words_of, joined, lea}
+use Rattle.mask_lea.specs.Lea.{deltas, delta, place, word_updated, key_updated, round_key, mixed, block_mixed, round, lea_words, lea}
 use Rattle.mask_modes.specs.CounterMode.{keystream, ciphertext_from}
+use Rattle.mask_parts.specs.Turns.{in_turn}
+use Rattle.mask_parts.specs.Words32.{words_of, joined}
 use Rattle.mask_ciphers.specs.Tasks.{output}
 use Rattle.mask_ciphers.specs.Totals.{total}
 

@@ -6,11 +6,8 @@ use Rattle.mask_tasks.specs.declared.sizes.LeaSize.{LeaSize}
 use Rattle.mask_tasks.specs.declared.sizes.LeaSize.TheVariants as lea_size
 use Rattle.mask_tasks.specs.declared.tasks.Task.{Task}
 use Rattle.mask_tasks.specs.declared.tasks.Task.TheVariants.{Present, Lea, Trivium}
+use Rattle.mask_parts.specs.CipherCircuits.{gate_bits}
 use Rattle.mask_streams.specs.Streams.{stream_bits}
-
--- the bits that a product or a refresh draws: one for each pair of shares
-abbrev pub gate_bits : ℕ → ℕ
-gate_bits d = d * suc d / 2
 
 -- how many products and refreshes a block takes, and a refresh of the key
 abbrev pub present_gates : KeySize → ℕ

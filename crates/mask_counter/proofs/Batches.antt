@@ -1,5 +1,5 @@
 -- A batch is a refresh, where one is due, and then its blocks.
-use Rattle.std.proofs.Common.{◌≡◌, ℕ, zero, suc, ◌+◌, ◌*◌, ◌%◌, ◌<◌, ◌≤◌, Bool, true, false, cond, List, [], ◌∷◌, ◌++◌, length, drop, Option, inl, inr, refl, sym, ap, ap₂, subst, ◌∙◌, arith}
+use Rattle.std.proofs.Common.{◌≡◌, ℕ, zero, suc, ◌+◌, ◌*◌, ◌%◌, ◌<◌, ◌≤◌, Bool, true, false, cond, List, [], ◌∷◌, ◌++◌, length, drop, inl, inr, refl, sym, ap, ap₂, subst, ◌∙◌, arith}
 use Rattle.std.proofs.Math.Seq.{drop-append_seam}
 use Rattle.std.proofs.lemmas.List.{append-nil}
 use Rattle.mask_bits.proofs.Bytes.{length-low}
@@ -9,10 +9,10 @@ use Rattle.mask_circuit.specs.Expansion.{draws}
 use Rattle.mask_tape.specs.Drawn.{Amount}
 use Rattle.mask_tape.specs.Tape.{new_bytes}
 use Rattle.mask_eval.specs.Evaluated.{coin_count}
-use Rattle.mask_eval.specs.Watching.{Told, Awaited, IsReadyFor, StaysReadyBehind, awaited}
+use Rattle.mask_eval.specs.Watching.{Awaited, IsReadyFor, StaysReadyBehind, awaited}
 use Rattle.mask_trace.specs.Steps.{Registers, Step, stretch, bits_of}
 use Rattle.mask_trace.specs.Traces.{BitShares, output_shares}
-use Rattle.mask_trace.specs.Drawing.{Stand, Ran, RanPart}
+use Rattle.mask_trace.specs.Drawing.{Stand, Ran, RanPart, stand}
 use Rattle.mask_trace.proofs.Traces.{traces_split, bits_of-cons}
 use Rattle.mask_trace.proofs.Drawing.{runs_join, draws_join}
 use Rattle.mask_modes.specs.CounterMode.{block_count}
@@ -21,7 +21,7 @@ use Rattle.mask_modes.proofs.Batches.{batches_are_steps}
 use Rattle.mask_modes.proofs.BlockCounts.{le-block_count}
 use Rattle.mask_modes.proofs.TapeBits.{plain_bits-block}
 use Rattle.mask_counter.specs.Blocks.{IsBlockLength, reading}
-use Rattle.mask_counter.specs.Batches.{BatchRan, BatchStopped, Between, Encrypted, batch_steps, have, mode, stand}
+use Rattle.mask_counter.specs.Batches.{BatchRan, BatchStopped, Between, Encrypted, batch_steps, have, mode}
 use Rattle.mask_counter.specs.declared.words.BitOrder.{BitOrder}
 use Rattle.mask_counter.proofs.Evaluations.{few_blocks, order-is, with_shares}
 use Rattle.mask_counter.proofs.Turned.{length-ordered, reading_is}
@@ -82,12 +82,6 @@ with_key shares = record { key = shares; state = [] }
 -- nothing was evaluated yet
 nothing_ran : (N : ℕ) (have : Registers BitShares) (steps : List Step) (a : Stand) → length a.kept < 8 → RanPart N have steps 0 a a
 nothing_ran N have steps a small = record { within = omega arith; now = have; ran = runs_join.none N have a small }
-
--- a stand is known by its parts
-pub same_stand : (kept kept' : List Bool) (left left' : Option (List ℕ)) (told told' : Option (List Told)) → kept ≡ kept' → left ≡ left' → told ≡ told' →
-    stand kept left told ≡ stand kept' left' told'
-same_stand kept kept' left left' told told' k l t =
-    ap₂ (λ (x : List Bool) (y : Option (List ℕ)). stand x y told) k l ∙ ap (λ (z : Option (List Told)). stand kept' left' z) t
 
 module _ (N : ℕ) (run : Between) (part : List ℕ) (is : IsBatch (mode run) run.done part) where
   abbrev ahead : List Step

@@ -11,7 +11,7 @@ use Rattle.mask_eval.specs.Watching.{Told, Awaited, StaysReadyBehind}
 use Rattle.mask_eval.specs.Evaluated.{inputs_of, EvaluatesInLanes}
 use Rattle.mask_trace.specs.Steps.{Public, Plain, Key, Step, sharing_bits}
 use Rattle.mask_trace.specs.Traces.{BitShares, input_shares}
-use Rattle.mask_trace.specs.Drawing.{Ran}
+use Rattle.mask_trace.specs.Drawing.{Ran, stand}
 use Rattle.mask_trace.specs.Lanes.{RanInLanes}
 use Rattle.mask_trace.proofs.Inputs.{words_are_inputs, inputs_stand_in_parts}
 use Rattle.mask_trace.proofs.SideBySide.{lanes_are_steps, lane_is_step}
@@ -21,7 +21,7 @@ use Rattle.mask_modes.proofs.Batches.{batches_are_steps}
 use Rattle.mask_modes.proofs.TapeBits.{plain_bits-block}
 use Rattle.mask_modes.proofs.BlockCounts.{block_count_grows, block_count-whole}
 use Rattle.mask_counter.specs.Blocks.{IsBlockLength, reading}
-use Rattle.mask_counter.specs.Batches.{Between, Encrypted, have, mode, stand}
+use Rattle.mask_counter.specs.Batches.{Between, Encrypted, have, mode}
 
 pub order-is : (N : ℕ) → N - 1 ≡ pred N
 order-is zero = refl

@@ -1,12 +1,11 @@
 -- A run in counter mode between batches, and what a batch does.
-use Rattle.std.specs.Prelude.{◌≡◌, ℕ, ◌+◌, ◌*◌, ◌^◌, ◌<◌, ◌≤◌, Bool, List, [], ◌++◌, length, map, take, drop, Option}
+use Rattle.std.specs.Prelude.{◌≡◌, ℕ, ◌+◌, ◌*◌, ◌^◌, ◌<◌, ◌≤◌, Bool, List, [], ◌++◌, length, map, take, drop}
 use Rattle.mask_bits.specs.Lanes.{lane}
 use Rattle.mask_bits.specs.Reading.{low}
 use Rattle.mask_circuit.specs.Netlist.{Netlist}
 use Rattle.mask_circuit.specs.Expansion.{draws}
 use Rattle.mask_tape.specs.Tape.{new_bytes}
 use Rattle.mask_eval.specs.Frames.{Held, IsFrameOf}
-use Rattle.mask_eval.specs.Watching.{Told}
 use Rattle.mask_trace.specs.Steps.{Registers, Step, bits_of}
 use Rattle.mask_trace.specs.Lanes.{RanInLanes}
 use Rattle.mask_trace.specs.Traces.{BitShares, output_shares}
@@ -54,10 +53,6 @@ pub record IsInForm (N : ℕ) (circuit refresh : Netlist) (key block iv : ℕ) (
   pub fits : IsFrameOf frame circuit
   pub refresh_fits : IsFrameOf refresh_frame refresh
   pub same : (l : ℕ) → l < 64 → map (lane l) (take key inputs) ≡ map (lane 0) (take key inputs)
-
--- tape, entropy and watch at a time
-abbrev pub stand : List Bool → Option (List ℕ) → Option (List Told) → Stand
-stand kept left told = record { kept = kept; left = left; told = told }
 
 -- The steps of these blocks were evaluated side by side, each in a lane of its own: in each lane the outputs are those of the
 -- lane's step, on the shares of the key, with the lane's own part of the tape.

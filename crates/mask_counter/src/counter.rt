@@ -7,11 +7,11 @@ ghost use Rattle.mask_tape.specs.Tape.{failed_to_draw, new_bytes};
 ghost use Rattle.mask_tape.specs.declared.tape.TapeError.TheVariants as TapeError;
 ghost use Rattle.mask_eval.specs.Watching.{IsReadyFor, StaysReadyBehind, awaited};
 ghost use Rattle.mask_eval.specs.Evaluated.{coin_count};
-ghost use Rattle.mask_trace.specs.Drawing.{Ran};
+ghost use Rattle.mask_trace.specs.Drawing.{Ran, stand};
 ghost use Rattle.mask_modes.specs.CounterMode.{block_count};
 ghost use Rattle.mask_modes.specs.Steps.{is_due, refresh_step};
 ghost use Rattle.mask_counter.specs.Blocks.{IsBlockLength};
-ghost use Rattle.mask_counter.specs.Batches.{BatchRan, BatchStopped, Encrypted, have, mode, stand};
+ghost use Rattle.mask_counter.specs.Batches.{BatchRan, BatchStopped, Encrypted, have, mode};
 
 use crate::shares::{put_in_all_lanes, put_public};
 use crate::words::{BitOrder, block_words, counter_bytes};

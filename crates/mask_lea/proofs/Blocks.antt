@@ -1,24 +1,23 @@
 -- Two blocks xored word by word: what it keeps, and what it computes.
-use Rattle.std.proofs.Common.{◌≡◌, ℕ, zero, suc, ◌+◌, ◌*◌, ◌^◌, ◌<◌, Bool, List, [], ◌∷◌, ◌++◌, length, map, All, refl, sym, ap, ap₂, ◌∙◌, arith, bit_xor}
+use Rattle.std.proofs.Common.{◌≡◌, ℕ, suc, ◌+◌, ◌*◌, Bool, List, [], ◌∷◌, length, map, All, refl, sym, ap, ◌∙◌, arith, bit_xor}
 use Rattle.std.specs.List.{range_with_len}
 use Rattle.std.proofs.lemmas.List.{length-map, map-append}
 use Rattle.std.proofs.lemmas.List.FromFn.{length-range_with_len}
 use Rattle.std.proofs.lemmas.List.Elements.{All-head, All-tail}
 use Rattle.mask_bits.specs.Reading.{number}
-use Rattle.mask_bits.proofs.Numbers.{number-append, number-lt}
+use Rattle.mask_bits.proofs.Numbers.{number-append}
 use Rattle.mask_circuit.specs.Netlist.{Netlist, value_count}
 use Rattle.mask_circuit.specs.Value.{value_at}
 use Rattle.mask_parts.specs.Drafts.{Grows}
-use Rattle.mask_parts.specs.Words32.{with_xor32, xor32_results}
+use Rattle.mask_parts.specs.Words32.{with_xor32, xor32_results, joined}
 use Rattle.mask_parts.proofs.Growing.{Grows-refl, Grows-trans}
-use Rattle.mask_lea.specs.Lea.{joined}
+use Rattle.mask_parts.proofs.Joining.{xor-joined}
+use Rattle.mask_parts.proofs.Passing.{IsSound, Passes, Passes-refl, Passes-trans, Passes-as}
+use Rattle.mask_parts.proofs.Ranges.{range-split}
+use Rattle.mask_parts.proofs.Solving.{Solved, Solved-Grows}
+use Rattle.mask_parts.proofs.WordPassing.{Grows-xor32, Passes-xor32, IsWord, words-later}
+use Rattle.mask_parts.proofs.WordShowing.{shown, shown-xor32, shown-lt}
 use Rattle.mask_lea.specs.NamedLea.{with_blocks_xored}
-use Rattle.mask_lea.proofs.Joining.{xor-joined}
-use Rattle.mask_lea.proofs.Lengthening.{Grows-xor32}
-use Rattle.mask_lea.proofs.Mixing.{Passes-xor32}
-use Rattle.mask_lea.proofs.Passing.{IsSound, IsWord, Passes, Passes-refl, Passes-trans, Passes-as}
-use Rattle.mask_lea.proofs.Running.{All-later}
-use Rattle.mask_lea.proofs.Showing.{Solved, Solved-Grows, shown, shown-xor32}
 
 pub Grows-blocks_xored : (c : Netlist) (xs ys : List (List ℕ)) → Grows c (with_blocks_xored c xs ys)
 unfolding with_blocks_xored
@@ -35,19 +34,8 @@ Passes-blocks_xored T c (x ∷ xs) (y ∷ ys) same sound one two =
     let d : Netlist = with_xor32 c x y in
     let here : Passes T c d 32 0 = Passes-xor32 T c x y sound (All-head (IsWord T c) x xs one) (All-head (IsWord T c) y ys two) in
     let rest = Passes-blocks_xored T d xs ys (omega arith) here.sound
-    (All-later T c d 32 0 xs here (All-tail (IsWord T c) x xs one)) (All-later T c d 32 0 ys here (All-tail (IsWord T c) y ys two)) in
+    (words-later T c d 32 0 xs here (All-tail (IsWord T c) x xs one)) (words-later T c d 32 0 ys here (All-tail (IsWord T c) y ys two)) in
     Passes-as T c _ _ _ _ _ (omega arith) refl (Passes-trans T c d _ 32 0 _ 0 here rest)
-
-range-split : (a n k : ℕ) → range_with_len a (n + k) ≡ range_with_len a n ++ range_with_len (a + n) k
-range-split a zero k = let e : a ≡ a + 0 = omega arith in ap₂ (λ (m l : ℕ). range_with_len m l) e (omega arith)
-range-split a (suc n) k =
-    let e : suc n + k ≡ suc (n + k) = omega arith in
-    let at : a + 1 + n ≡ a + suc n = omega arith in
-    rw (e, ← at) (ap (λ (us : List ℕ). a ∷ us) (range-split (a + 1) n k))
-
--- words of 32 values are numbers below 2 ^ 32
-shown-lt : (T : Type 0) (vs : List Bool) (c : Netlist) (w : List ℕ) → IsWord T c w → shown vs w < 2 ^ 32
-shown-lt T vs c w is = rw (length-map w (value_at vs) ∙ is.long) at (number-lt (map (value_at vs) w))
 
 -- the values made are the XOR of what the blocks stand for
 pub shown-blocks_xored : (T : Type 0) (vs : List Bool) (c : Netlist) (xs ys : List (List ℕ)) → length xs ≡ length ys → IsSound T c → All (IsWord T c) xs → All (IsWord T c) ys
@@ -67,7 +55,7 @@ shown-blocks_xored T vs c (x ∷ xs) (y ∷ ys) same sound one two solved =
     unfold xor32_results in shown-xor32 vs c x y x_is.long y_is.long (Solved-Grows vs d _ (Grows-blocks_xored d xs ys) solved) in
     let rest = rw here.adds.values at
     (shown-blocks_xored T vs d xs ys (omega arith) here.sound
-    (All-later T c d 32 0 xs here (All-tail (IsWord T c) x xs one)) (All-later T c d 32 0 ys here (All-tail (IsWord T c) y ys two)) solved) in
+    (words-later T c d 32 0 xs here (All-tail (IsWord T c) x xs one)) (words-later T c d 32 0 ys here (All-tail (IsWord T c) y ys two)) solved) in
     let more : suc (length xs) * 32 ≡ 32 + length xs * 32 = omega arith in
     let long : length (map (value_at vs) (range_with_len n 32)) ≡ 32 = length-map (range_with_len n 32) (value_at vs) ∙ length-range_with_len n 32 in
     ap (λ (k : ℕ). shown vs (range_with_len n k)) more

@@ -1,52 +1,22 @@
 -- Stages as calls know them: of values of the draft, and what a loop of steps has made of one.
-use Rattle.std.proofs.Common.{◌≡◌, ℕ, zero, suc, ◌+◌, ◌%◌, ◌<◌, List, [], length, All, refl, sym, ap, ◌∙◌, arith, add-one}
-use Rattle.std.proofs.lemmas.List.Elements.{All-nil, All-get_or, All-weaker}
+use Rattle.std.proofs.Common.{◌≡◌, ℕ, zero, suc, ◌+◌, ◌%◌, ◌<◌, List, [], length, refl, sym, ap, ◌∙◌, arith}
+use Rattle.std.proofs.lemmas.List.Elements.{All-nil, All-weaker}
 use Rattle.mask_circuit.specs.Netlist.{Netlist, value_count}
-use Rattle.mask_parts.specs.Drafts.{Grows, IsWithinLimits}
-use Rattle.mask_parts.specs.Words32.{with_xor32, xor32_results}
-use Rattle.mask_parts.proofs.Growing.{value_count-Grows}
+use Rattle.mask_parts.specs.Drafts.{Grows}
+use Rattle.mask_parts.specs.Turns.{in_turn}
+use Rattle.mask_parts.specs.Words32.{with_xor32, xor32_results, AreWordsOf}
+use Rattle.mask_parts.proofs.Passing.{Formed, IsReady, AreOf}
+use Rattle.mask_parts.proofs.Ranges.{All-range}
+use Rattle.mask_parts.proofs.Turns.{HasRun}
 use Rattle.mask_parts.proofs.WordFitting.{value_count-with_xor32}
+use Rattle.mask_parts.proofs.WordPassing.{IsWord-rotated, IsWord-constant, words-known, known-words, AreWordsOf-Grows}
 use Rattle.mask_tasks.specs.declared.sizes.LeaSize.{LeaSize}
-use Rattle.mask_lea.specs.Lea.{schedule, place, Schedule, delta, in_turn}
-use Rattle.mask_lea.specs.Rounds.{Stage, stage, word, constant_word, AreWordsOf, with_word_updated, with_key_updated, round_words, with_block_mixed, with_round}
-use Rattle.mask_lea.proofs.Lengthening.{Lengthens, Lengthens-in_turn, Lengthens-key_updated, Lengthens-block_mixed}
-use Rattle.mask_lea.proofs.Mixing.{IsWord-rotated, IsWord-constant}
-use Rattle.mask_lea.proofs.Passing.{Formed, IsReady, IsWord}
+use Rattle.mask_lea.specs.Lea.{schedule, place, Schedule, delta}
+use Rattle.mask_lea.specs.Rounds.{Stage, stage, constant_word, with_word_updated, with_key_updated, round_words, with_block_mixed, with_round}
+use Rattle.mask_lea.proofs.Lengthening.{Lengthens-key_updated, Lengthens-block_mixed}
 use Rattle.mask_lea.proofs.Running.{IsShape, IsShape-schedule, place-lt, IsFine, Runs-key_updated, All-round_words}
-use Rattle.mask_lea.proofs.Starting.{All-range}
-
--- VALUES OF A DRAFT
-
--- these are values of the draft
-abbrev pub AreOf : Netlist → List ℕ → Type 0
-AreOf c us = All (λ u. u < value_count c) us
-
-pub AreOf-Grows : (c d : Netlist) (us : List ℕ) → Grows c d → AreOf c us → AreOf d us
-AreOf-Grows c d us grows known =
-    let more = value_count-Grows c d grows in
-    All-weaker (λ u. u < value_count c) (λ u. u < value_count d) (λ u low. omega arith) us known
-
-pub AreOf-xor32 : (c : Netlist) (x y : List ℕ) → AreOf (with_xor32 c x y) (xor32_results (value_count c))
-unfolding xor32_results
-AreOf-xor32 c x y = All-range (λ u. u < value_count (with_xor32 c x y)) (value_count c) 32 (λ u low high. let count = value_count-with_xor32 c x y in omega arith)
-
--- a word of a list of words
-pub AreOf-word : (c : Netlist) (ws : List (List ℕ)) (k : ℕ) → k < length ws → AreWordsOf c ws → AreOf c (word ws k)
-AreOf-word c ws k inside known = (All-get_or (λ w. (length w ≡ 32) × AreOf c w) ws k [] inside known).1
 
 -- STAGES
-
-ready-below : (c : Netlist) (us : List ℕ) → AreOf c us → All (IsReady ⊥ c) us
-ready-below c us known = All-weaker (λ u. u < value_count c) (IsReady ⊥ c) (λ u low. record { below = low; free = λ none. absurd none }) us known
-
-pub words-known : (c : Netlist) (ws : List (List ℕ)) → AreWordsOf c ws → All (IsWord ⊥ c) ws
-words-known c ws known =
-    All-weaker (λ w. (length w ≡ 32) × AreOf c w) (IsWord ⊥ c) (λ w is. record { long = is.0; ready = ready-below c w is.1 }) ws known
-
-pub known-words : (c : Netlist) (ws : List (List ℕ)) → All (IsWord ⊥ c) ws → AreWordsOf c ws
-known-words c ws words =
-    All-weaker (IsWord ⊥ c) (λ w. (length w ≡ 32) × AreOf c w)
-    (λ w is. (is.long, All-weaker (IsReady ⊥ c) (λ u. u < value_count c) (λ u ready. ready.below) w is.ready)) ws words
 
 -- a stage of values of a draft
 pub IsFine-stage : (r : Schedule) (m : ℕ) (c : Netlist) (nought one : ℕ) (key block : List (List ℕ)) → Formed c → nought < value_count c → one < value_count c
@@ -63,30 +33,6 @@ IsFine-stage r m c nought one key block formed low low' key_long key_known block
 }
 
 -- LOOPS
-
--- the stage now is what i steps make of the one before
-pub record HasRun (f : ℕ → Stage → Stage) (before now : Stage) (i : ℕ) : Type 0 where
-  pub within : IsWithinLimits now.draft
-  pub is : now ≡ in_turn f i before
-
-pub HasRun-none : (f : ℕ → Stage → Stage) (before : Stage) → IsWithinLimits before.draft → HasRun f before before 0
-unfolding in_turn
-HasRun-none f before within = record { within = within; is = refl }
-
-pub HasRun-more : (f : ℕ → Stage → Stage) (before now later : Stage) (i : ℕ) → HasRun f before now i → later ≡ f i now → IsWithinLimits later.draft → HasRun f before later (i + 1)
-unfolding in_turn
-HasRun-more f before now later i has is within = record { within = within; is = rw (add-one i) (is ∙ ap (f i) has.is) }
-
-module _ (f : ℕ → Stage → Stage) (longer : (i : ℕ) (s : Stage) → Lengthens s (f i s)) (before now : Stage) (i n : ℕ) (has : HasRun f before now i) where
-  -- what was made
-  pub begun-run : Grows before.draft now.draft
-  unfolding in_turn
-  begun-run = rw has.is (Lengthens-in_turn f longer 0 i before (omega arith))
-
-  -- and what is left behind the next step
-  pub left-run : i < n → Grows (f i now).draft (in_turn f n before).draft
-  unfolding in_turn
-  left-run few = rw has.is (Lengthens-in_turn f longer (suc i) n before (omega arith))
 
 in_turn-fine : (r : Schedule) (m : ℕ) (f : ℕ → Stage → Stage) → ((i : ℕ) (s : Stage) → IsFine ⊥ r m s → IsFine ⊥ r m (f i s)) → (i : ℕ) (s : Stage) → IsFine ⊥ r m s
     → IsFine ⊥ r m (in_turn f i s)
@@ -114,9 +60,9 @@ IsKnown-fine r m c nought one key block fine = record {
   nought_known = fine.nought.below;
   one_known = fine.one.below;
   width = fine.key_long;
-  key_known = known-words c key fine.key;
+  key_known = known-words ⊥ c key fine.key;
   block_long = fine.block_long;
-  block_known = known-words c block fine.block;
+  block_known = known-words ⊥ c block fine.block;
 }
 
 pub IsFine-known : (r : Schedule) (m : ℕ) (c : Netlist) (nought one : ℕ) (key block : List (List ℕ)) → Formed c → IsKnown r m c nought one key block → IsFine ⊥ r m (stage c nought one key block)
@@ -125,7 +71,7 @@ IsFine-known r m c nought one key block formed known =
 
 pub IsKnown-run : (r : Schedule) (m : ℕ) (f : ℕ → Stage → Stage) → ((i : ℕ) (s : Stage) → IsFine ⊥ r m s → IsFine ⊥ r m (f i s))
     → (b c : Netlist) (nought one : ℕ) (key now us vs : List (List ℕ)) (i : ℕ) → Formed b → IsKnown r m b nought one key us
-    → HasRun f (stage b nought one key us) (stage c nought one now vs) i → IsKnown r m c nought one now vs
+    → HasRun (λ (s : Stage). s.draft) f (stage b nought one key us) (stage c nought one now vs) i → IsKnown r m c nought one now vs
 IsKnown-run r m f keeps b c nought one key now us vs i formed known has =
     IsKnown-fine r m c nought one now vs (rw has.is (in_turn-fine r m f keeps i (stage b nought one key us) (IsFine-known r m b nought one key us formed known)))
 
@@ -204,10 +150,6 @@ module _ (r : Schedule) (i : ℕ) (c : Netlist) (nought one : ℕ) (key us : Lis
   unfolding stage
   round-key = sym (ap (λ (s : Stage). s.key) (round-parts r i c nought one key us))
 
-pub AreWordsOf-Grows : (c d : Netlist) (ws : List (List ℕ)) → Grows c d → AreWordsOf c ws → AreWordsOf d ws
-AreWordsOf-Grows c d ws grows known =
-    All-weaker (λ w. (length w ≡ 32) × AreOf c w) (λ w. (length w ≡ 32) × AreOf d w) (λ w is. (is.0, AreOf-Grows c d w grows is.1)) ws known
-
 -- what the second call is handed
 module _ (r : Schedule) (shape : IsShape r) (i : ℕ) (c : Netlist) (nought one : ℕ) (key us : List (List ℕ)) (formed : Formed c) (known : IsKnown r 4 c nought one key us) where
   abbrev pub updated : Stage
@@ -222,7 +164,7 @@ module _ (r : Schedule) (shape : IsShape r) (i : ℕ) (c : Netlist) (nought one 
   updated-long = updated-fine.key_long
 
   pub updated-words : AreWordsOf updated.draft (round_words r i updated.key)
-  updated-words = known-words updated.draft _ (All-round_words ⊥ r shape i updated.draft updated.key updated-fine.key_long updated-fine.key)
+  updated-words = known-words ⊥ updated.draft _ (All-round_words ⊥ r shape i updated.draft updated.key updated-fine.key_long updated-fine.key)
 
   pub begun-updated : Grows c updated.draft
   unfolding stage

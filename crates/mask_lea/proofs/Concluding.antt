@@ -1,67 +1,36 @@
 -- The named circuits are strong, of their size, and compute LEA in counter mode.
-use Rattle.std.proofs.Common.{◌≡◌, ℕ, ◌+◌, ◌*◌, ◌<◌, Bool, cond, List, [], ◌∷◌, ◌++◌, length, map, take, drop, All, refl, sym, ap, ◌∙◌, arith, add-one, lit≤, bit_xor}
-use Rattle.std.specs.List.{range_with_len, count_by}
-use Rattle.std.proofs.lemmas.List.{length-map, length-take-le, length-drop}
-use Rattle.std.proofs.lemmas.List.Sums.{sum_by-cons}
+use Rattle.std.proofs.Common.{◌≡◌, ℕ, ◌+◌, ◌*◌, ◌<◌, Bool, List, [], ◌∷◌, length, map, take, drop, All, refl, sym, ap, ◌∙◌, arith, add-one, lit≤, bit_xor}
+use Rattle.std.specs.List.{range_with_len}
+use Rattle.std.proofs.lemmas.List.{length-take-le, length-drop}
 use Rattle.std.proofs.lemmas.List.FromFn.{length-range_with_len}
-use Rattle.std.proofs.lemmas.List.Elements.{All-nil}
 use Rattle.mask_bits.specs.Reading.{number, lowest}
-use Rattle.mask_bits.proofs.Numbers.{lowest-of}
-use Rattle.mask_circuit.specs.declared.gates.Gate.{Gate}
-use Rattle.mask_circuit.specs.declared.gates.Gate.TheVariants.{Zero, One, Ref}
-use Rattle.mask_circuit.specs.Netlist.{Netlist, IsCircuit, IsWellFormed, only_inputs, value_count, product_count, refresh_count, is_product, is_refresh}
-use Rattle.mask_circuit.specs.Value.{value_at, plain_values, plain}
+use Rattle.mask_circuit.specs.declared.gates.Gate.TheVariants.{Zero, One}
+use Rattle.mask_circuit.specs.Netlist.{Netlist, only_inputs, value_count, product_count, refresh_count}
+use Rattle.mask_circuit.specs.Value.{plain_values}
 use Rattle.mask_circuit.specs.Acceptance.{IsStrong}
 use Rattle.mask_tasks.specs.declared.sizes.LeaSize.{LeaSize}
 use Rattle.mask_tasks.specs.declared.sizes.LeaSize.TheVariants.{K128, K192, K256}
 use Rattle.mask_parts.specs.CipherCircuits.{Size, size_of, IsCipherCircuit}
-use Rattle.mask_parts.specs.Drafts.{with_gates, with_outputs, bits_of, Grows, IsWithinLimits}
-use Rattle.mask_parts.specs.Fences.{with_fence}
-use Rattle.mask_parts.proofs.Concluding.{IsStrong-tidy_fence, IsCipherCircuit-strong}
-use Rattle.mask_parts.proofs.Fencing.{IsWellFormed-fence, plain-with_fence}
-use Rattle.mask_parts.proofs.Growing.{inputs-with_gates, outputs-with_gates, value_count-with_gates, product_count-with_gates, refresh_count-with_gates, Grows-trans, Grows-with_gates, Grows-with_outputs}
-use Rattle.mask_parts.proofs.Solving.{Solves-all}
-use Rattle.mask_lea.specs.Lea.{Schedule, schedule, words_of, joined, lea_words, lea}
+use Rattle.mask_parts.specs.Drafts.{with_gates, bits_of, Grows, IsWithinLimits}
+use Rattle.mask_parts.specs.Words32.{words_of, joined}
+use Rattle.mask_parts.proofs.Concluding.{Grows-fence, IsDone, IsStrong-done, bits_of-lowest, IsCipherCircuit-done}
+use Rattle.mask_parts.proofs.Counting.{same_size, IsWithinLimits-sized, size-with_fence}
+use Rattle.mask_parts.proofs.Growing.{Grows-trans, Grows-with_gates}
+use Rattle.mask_parts.proofs.Inputs.{IsReady-input}
+use Rattle.mask_parts.proofs.Joining.{joined-bits}
+use Rattle.mask_parts.proofs.Passing.{IsReady, Passes, Passes-trans, Passes-as, AreOf}
+use Rattle.mask_parts.proofs.Ranges.{All-range}
+use Rattle.mask_parts.proofs.Solving.{Solves-all, Solved, Solved-Grows}
+use Rattle.mask_parts.proofs.WordPassing.{IsWord}
+use Rattle.mask_parts.proofs.WordShowing.{shown}
+use Rattle.mask_lea.specs.Lea.{Schedule, schedule, lea_words, lea}
 use Rattle.mask_lea.specs.NamedLea.{width, words_from, start, with_blocks_xored, encrypted_message, named_of, named_lea, size_lea, lea_of_bits}
 use Rattle.mask_lea.specs.Rounds.{Stage, with_rounds}
 use Rattle.mask_lea.proofs.Blocks.{Grows-blocks_xored, Passes-blocks_xored, shown-blocks_xored}
-use Rattle.mask_lea.proofs.Joining.{joined-bits}
 use Rattle.mask_lea.proofs.Lengthening.{Lengthens-whole}
-use Rattle.mask_lea.proofs.Passing.{IsReady, IsWord, Passes, Passes-trans, Passes-as}
 use Rattle.mask_lea.proofs.Running.{IsShape, IsShape-schedule, Runs, round_values, round_products, Runs-rounds}
-use Rattle.mask_lea.proofs.Showing.{Solved, Solved-Grows, shown, Shows, shown-rounds}
-use Rattle.mask_lea.proofs.Starting.{All-range, All-words_from, length-words_from, IsReady-input, IsFine-start, words-inputs}
-
--- SIZES
-
-products-refs : (us : List ℕ) → count_by is_product (map Ref us) ≡ 0
-products-refs [] = refl
-products-refs (u ∷ us) = rw (sum_by-cons (λ (g : Gate). cond (is_product g) 1 0) (Ref u) (map Ref us), products-refs us) (omega arith)
-
-refreshes-refs : (us : List ℕ) → count_by is_refresh (map Ref us) ≡ length us
-refreshes-refs [] = refl
-refreshes-refs (u ∷ us) = rw (sum_by-cons (λ (g : Gate). cond (is_refresh g) 1 0) (Ref u) (map Ref us), refreshes-refs us) (omega arith)
-
--- sizes are equal by their parts
-same_size : (a b : Size) → a.inputs ≡ b.inputs → a.outputs ≡ b.outputs → a.products ≡ b.products → a.refreshes ≡ b.refreshes → a.values ≡ b.values → a ≡ b
-same_size a b i o p f v = λ t. record { inputs = i t; outputs = o t; products = p t; refreshes = f t; values = v t }
-
--- a draft without outputs that is fenced
-size-with_fence : (c : Netlist) (us : List ℕ) → c.outputs ≡ []
-    → size_of (with_fence c us) ≡ record {
-      inputs = c.inputs;
-      outputs = length us;
-      products = product_count c;
-      refreshes = refresh_count c + length us;
-      values = value_count c + length us;
-    }
-unfolding with_fence with_outputs size_of
-size-with_fence c us none =
-    same_size _ _ (inputs-with_gates c (map Ref us))
-    (rw (outputs-with_gates c (map Ref us), none) (length-range_with_len _ (length us)))
-    (product_count-with_gates c (map Ref us) ∙ rw (products-refs us) (omega arith))
-    (refresh_count-with_gates c (map Ref us) ∙ rw (refreshes-refs us) refl)
-    (value_count-with_gates c (map Ref us) ∙ rw (length-map us Ref) refl)
+use Rattle.mask_lea.proofs.Showing.{Shows, shown-rounds}
+use Rattle.mask_lea.proofs.Starting.{All-words_from, length-words_from, IsFine-start, words-inputs}
 
 -- THE CIRCUITS
 
@@ -104,8 +73,11 @@ module _ (r : Schedule) (shape : IsShape r) where
   pub no_outputs : (encrypted_message r).outputs ≡ []
   no_outputs = (whole ⊥).adds.outputs ∙ (unfold start with_gates in refl)
 
-  pub known-sums : All (λ u. u < value_count (encrypted_message r)) sums
+  pub known-sums : AreOf (encrypted_message r) sums
   known-sums = All-range (λ u. u < value_count (encrypted_message r)) (value_count end.draft) 128 (λ u low high. let count = (passes-message ⊥).adds.values in omega arith)
+
+  done : (T : Type 0) → IsDone T (encrypted_message r) sums
+  done T = record { sound = (whole T).sound; none = no_outputs; known = known-sums }
 
   -- what was made and what is left, at the end of the rounds
   pub begun-end : (b : Netlist) → b ≡ only_inputs (width r + 256) → Grows b end.draft
@@ -117,8 +89,8 @@ module _ (r : Schedule) (shape : IsShape r) where
   left = Grows-blocks_xored end.draft end.block messages
 
   pub Grows-named : Grows (encrypted_message r) (named_of r)
-  unfolding named_of with_fence
-  Grows-named = Grows-trans _ _ _ (Grows-with_gates (encrypted_message r) _) (Grows-with_outputs _ _)
+  unfolding named_of
+  Grows-named = Grows-fence (encrypted_message r) sums
 
   size-named_of : size_of (named_of r)
       ≡ record {
@@ -138,16 +110,6 @@ module _ (r : Schedule) (shape : IsShape r) where
       let v = adds.values in let p = adds.products in let f = adds.refreshes in
       size-with_fence (encrypted_message r) sums no_outputs
       ∙ same_size _ _ inputs-message long (omega arith) (omega arith) (omega arith)
-
-  pub IsWellFormed-named_of : IsWellFormed (named_of r)
-  unfolding named_of
-  IsWellFormed-named_of = IsWellFormed-fence (encrypted_message r) sums (whole ⊥).sound.formed known-sums no_outputs
-
-  pub IsStrong-named_of : IsStrong (named_of r)
-  unfolding named_of
-  IsStrong-named_of =
-      let sound = (whole Unit).sound in
-      IsStrong-tidy_fence (encrypted_message r) sums sound.formed known-sums no_outputs (sound.tidy tt)
 
   -- WHAT THEY COMPUTE
 
@@ -187,22 +149,19 @@ module _ (r : Schedule) (shape : IsShape r) where
       ∙ shown-blocks_xored ⊥ vs end.draft end.block messages same_long fine.sound fine.block (All-messages ⊥) (solved-blocks vs solved)
       ∙ rw (blocks, message) refl
 
-  pub plain-named_of : (x : List Bool) → length x ≡ width r + 256
-      → plain (named_of r) x
+  bits-sums : (x : List Bool) → length x ≡ (encrypted_message r).inputs
+      → bits_of (encrypted_message r) x sums
       ≡ lowest 128 (bit_xor (joined (lea_words r (words_of r.words (number (take (width r) x))) (words_of 4 (number (take 128 (drop (width r) x))))))
       (number (take 128 (drop (width r + 128) x))))
-  unfolding named_of
-  plain-named_of x long =
-      let m : Netlist = encrypted_message r in
-      let bits : List Bool = bits_of m x sums in
-      let bits_long : length bits ≡ 128 = unfold bits_of in length-map sums (value_at (plain_values m x)) ∙ length-range_with_len (value_count end.draft) 128 in
-      let none : plain m x ≡ [] = ap (map (value_at (plain_values m x))) no_outputs in
-      plain-with_fence m sums (whole ⊥).sound.formed known-sums x (long ∙ sym inputs-message) (rw no_outputs (All-nil (λ u. u < value_count m)))
-      ∙ ap (λ (bs : List Bool). bs ++ bits) none
-      ∙ sym (lowest-of bits _ 128 (sym (number-sums x long)) bits_long)
+  bits-sums x long = bits_of-lowest (encrypted_message r) x sums 128 _ (length-range_with_len (value_count end.draft) 128) (number-sums x (long ∙ inputs-message))
 
-  pub inputs-named_of : (named_of r).inputs ≡ width r + 256
-  inputs-named_of = unfold size_of in ap (λ (s : Size). s.inputs) size-named_of
+  -- so they meet the contract of a cipher's circuit, where their size is known
+  pub IsCipherCircuit-named_of : (size : Size) (f : List Bool → List Bool) → size_of (named_of r) ≡ size → IsWithinLimits (named_of r)
+      → ((x : List Bool) → lowest 128 (bit_xor (joined (lea_words r (words_of r.words (number (take (width r) x))) (words_of 4 (number (take 128 (drop (width r) x))))))
+      (number (take 128 (drop (width r + 128) x)))) ≡ f x) → IsCipherCircuit (named_of r) size f (named_of r)
+  unfolding named_of
+  IsCipherCircuit-named_of size f sized limits computes =
+      IsCipherCircuit-done (encrypted_message r) sums (done Unit) size f sized limits (λ x long. bits-sums x long ∙ computes x)
 
 -- ALL SIZES
 
@@ -214,41 +173,12 @@ size-named_lea K256 = size-named_of (schedule K256) (IsShape-schedule K256)
 
 -- they're within the limits of a circuit
 pub IsWithinLimits-named : (size : LeaSize) → IsWithinLimits (named_lea size)
-unfolding size_of
-IsWithinLimits-named K128 = record {
-  values = rw (ap (λ (s : Size). s.values) (size-named_lea K128)) (lit≤ tt);
-  outputs = rw (ap (λ (s : Size). s.outputs) (size-named_lea K128)) (lit≤ tt);
-}
-IsWithinLimits-named K192 = record {
-  values = rw (ap (λ (s : Size). s.values) (size-named_lea K192)) (lit≤ tt);
-  outputs = rw (ap (λ (s : Size). s.outputs) (size-named_lea K192)) (lit≤ tt);
-}
-IsWithinLimits-named K256 = record {
-  values = rw (ap (λ (s : Size). s.values) (size-named_lea K256)) (lit≤ tt);
-  outputs = rw (ap (λ (s : Size). s.outputs) (size-named_lea K256)) (lit≤ tt);
-}
-
-pub IsStrong-named_lea : (size : LeaSize) → IsStrong (named_lea size)
-unfolding named_lea
-IsStrong-named_lea size = IsStrong-named_of (schedule size) (IsShape-schedule size)
-
-IsCircuit-named_lea : (size : LeaSize) → IsCircuit (named_lea size)
-IsCircuit-named_lea size =
-    let limits = IsWithinLimits-named size in
-    record {
-      formed = unfold named_lea in IsWellFormed-named_of (schedule size) (IsShape-schedule size);
-      few_values = limits.values;
-      few_outputs = limits.outputs;
-    }
-
-plain-named_lea : (size : LeaSize) (x : List Bool) → length x ≡ (named_lea size).inputs → plain (named_lea size) x ≡ lea_of_bits size x
-unfolding named_lea lea_of_bits lea
-plain-named_lea size x long =
-    let r = schedule size in
-    plain-named_of r (IsShape-schedule size) x (long ∙ inputs-named_of r (IsShape-schedule size))
+IsWithinLimits-named K128 = IsWithinLimits-sized (named_lea K128) (size_lea K128) (size-named_lea K128) (lit≤ tt) (lit≤ tt)
+IsWithinLimits-named K192 = IsWithinLimits-sized (named_lea K192) (size_lea K192) (size-named_lea K192) (lit≤ tt) (lit≤ tt)
+IsWithinLimits-named K256 = IsWithinLimits-sized (named_lea K256) (size_lea K256) (size-named_lea K256) (lit≤ tt) (lit≤ tt)
 
 -- so the named circuits meet the contract of a cipher's circuit
 pub IsCipherCircuit-named_lea : (size : LeaSize) → IsCipherCircuit (named_lea size) (size_lea size) (lea_of_bits size) (named_lea size)
+unfolding named_lea lea_of_bits lea
 IsCipherCircuit-named_lea size =
-    IsCipherCircuit-strong (named_lea size) (size_lea size) (lea_of_bits size) (named_lea size) refl (IsCircuit-named_lea size) (size-named_lea size)
-    (IsStrong-named_lea size) (plain-named_lea size)
+    IsCipherCircuit-named_of (schedule size) (IsShape-schedule size) (size_lea size) (lea_of_bits size) (size-named_lea size) (IsWithinLimits-named size) (λ x. refl)

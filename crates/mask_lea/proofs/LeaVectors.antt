@@ -2,7 +2,9 @@
 use Rattle.std.proofs.Common.{◌≡◌, ℕ, List, [], ◌∷◌, ◌++◌, refl}
 use Rattle.mask_bits.specs.Reading.{low, number}
 use Rattle.mask_tasks.specs.declared.sizes.LeaSize.TheVariants.{K128, K192, K256}
-use Rattle.mask_lea.specs.Lea.{deltas, delta, place, in_turn, word_updated, key_updated, round_key, mixed, block_mixed, round, lea_words, words_of, joined, lea}
+use Rattle.mask_parts.specs.Turns.{in_turn}
+use Rattle.mask_parts.specs.Words32.{words_of, joined}
+use Rattle.mask_lea.specs.Lea.{deltas, delta, place, word_updated, key_updated, round_key, mixed, block_mixed, round, lea_words, lea}
 
 -- the number of these bytes, and one list of bytes that begins all three keys
 abbrev of_bytes : List ℕ → ℕ

@@ -5,10 +5,11 @@ use Rattle.mask_circuit.specs.declared.gates.Gate.TheVariants.{Xor, And, Ref, Ze
 use Rattle.mask_circuit.specs.Netlist.{only_inputs}
 use Rattle.mask_tasks.specs.declared.sizes.LeaSize.TheVariants.{K128, K256}
 use Rattle.mask_parts.specs.Drafts.{with_gates}
-use Rattle.mask_parts.specs.Words32.{xor32_steps, xor32_gates, with_xor32, xor32_results, sum32_steps, sum32_gates, with_sum32, sum32_results, rotated32, constant32}
-use Rattle.mask_lea.specs.Lea.{schedule, deltas, delta, place, in_turn}
+use Rattle.mask_parts.specs.Turns.{in_turn}
+use Rattle.mask_parts.specs.Words32.{xor32_steps, xor32_gates, with_xor32, xor32_results, sum32_steps, sum32_gates, with_sum32, sum32_results, rotated32, constant32, word}
+use Rattle.mask_lea.specs.Lea.{schedule, deltas, delta, place}
 use Rattle.mask_lea.specs.NamedLea.{words_from, start}
-use Rattle.mask_lea.specs.Rounds.{stage, word, constant_word, with_word_updated, with_key_updated, round_words, with_mixed, mixed_results, with_block_mixed, with_round}
+use Rattle.mask_lea.specs.Rounds.{stage, constant_word, with_word_updated, with_key_updated, round_words, with_mixed, mixed_results, with_block_mixed, with_round}
 
 -- round 1 of 128 bits updates words 0 to 3; of 256 bits it goes on where round 0 ended, and round 4 begins at word 0 again
 places : (map (place (schedule K128) 1) (range_with_len 0 4) ≡ 0 ∷ 1 ∷ 2 ∷ 3 ∷ [])

@@ -2,15 +2,18 @@
 use Rattle.std.proofs.Common.{◌≡◌, ℕ, zero, suc, ◌+◌, ◌*◌, ◌<◌, ◌≤◌, List, [], ◌∷◌, length, All, refl, ◌∙◌, arith, slice_index, lit<, lit≤, add-zero}
 use Rattle.std.proofs.Math.Nat.{mod-lt}
 use Rattle.std.proofs.lemmas.List.{length-map, length-set}
-use Rattle.std.proofs.lemmas.List.Elements.{All-get_or, All-set, All-map, All-weaker, All-from_recursion}
+use Rattle.std.proofs.lemmas.List.Elements.{All-set, All-map, All-from_recursion}
 use Rattle.mask_circuit.specs.Netlist.{Netlist, value_count}
 use Rattle.mask_tasks.specs.declared.sizes.LeaSize.{LeaSize}
 use Rattle.mask_tasks.specs.declared.sizes.LeaSize.TheVariants.{K128, K192, K256}
-use Rattle.mask_parts.specs.Words32.{sum32_results, rotated32}
-use Rattle.mask_lea.specs.Lea.{Schedule, schedule, place, in_turn}
-use Rattle.mask_lea.specs.Rounds.{Stage, word, constant_word, with_word_updated, with_key_updated, round_words, with_mixed, mixed_results, with_block_mixed, with_round, with_rounds}
-use Rattle.mask_lea.proofs.Passing.{IsSound, IsReady, IsWord, IsWord-later, Passes, Passes-refl, Passes-trans, Passes-as}
-use Rattle.mask_lea.proofs.Mixing.{Passes-sum32, word-sum32, IsWord-rotated, IsWord-constant, Passes-mixed, word-mixed}
+use Rattle.mask_parts.specs.Turns.{in_turn}
+use Rattle.mask_parts.specs.Words32.{sum32_results, rotated32, word}
+use Rattle.mask_parts.proofs.Passing.{IsSound, IsReady, Passes, Passes-refl, Passes-trans}
+use Rattle.mask_parts.proofs.Turns.{RunsTo, Runs-trans, Runs-in_turn}
+use Rattle.mask_parts.proofs.WordPassing.{IsWord, IsWord-later, Passes-sum32, word-sum32, IsWord-rotated, IsWord-constant, words-later, word-at}
+use Rattle.mask_lea.specs.Lea.{Schedule, schedule, place}
+use Rattle.mask_lea.specs.Rounds.{Stage, constant_word, with_word_updated, with_key_updated, round_words, with_mixed, mixed_results, with_block_mixed, with_round, with_rounds}
+use Rattle.mask_lea.proofs.Mixing.{Passes-mixed, word-mixed}
 
 -- SCHEDULES
 
@@ -50,33 +53,14 @@ pub record IsFine (T : Type 0) (r : Schedule) (m : ℕ) (s : Stage) : Type 0 whe
   pub block : All (IsWord T s.draft) s.block
 
 -- the stage t is fine too, and its draft has v values more, of which p are products and p refreshes
-pub record Runs (T : Type 0) (r : Schedule) (m : ℕ) (s t : Stage) (v p : ℕ) : Type 0 where
-  pub passes : Passes T s.draft t.draft v p
-  pub fine : IsFine T r m t
-
-pub Runs-trans : (T : Type 0) (r : Schedule) (m : ℕ) (s t u : Stage) (v p w q : ℕ) → Runs T r m s t v p → Runs T r m t u w q → Runs T r m s u (v + w) (p + q)
-Runs-trans T r m s t u v p w q one two = record { passes = Passes-trans T s.draft t.draft u.draft v p w q one.passes two.passes; fine = two.fine }
-
-pub Runs-as : (T : Type 0) (r : Schedule) (m : ℕ) (s t : Stage) (v p w q : ℕ) → v ≡ w → p ≡ q → Runs T r m s t v p → Runs T r m s t w q
-Runs-as T r m s t v p w q same same' runs = record { passes = Passes-as T s.draft t.draft v p w q same same' runs.passes; fine = runs.fine }
+abbrev pub Runs : (T : Type 0) (r : Schedule) (m : ℕ) (s t : Stage) (v p : ℕ) → Type 0
+Runs T r m s t v p = RunsTo T (λ (u : Stage). u.draft) (IsFine T r m) s t v p
 
 -- n steps, each of which adds so much
-pub Runs-in_turn : (T : Type 0) (r : Schedule) (m : ℕ) (f : ℕ → Stage → Stage) (v p : ℕ) → ((i : ℕ) (s : Stage) → IsFine T r m s → Runs T r m s (f i s) v p)
+pub Runs-steps : (T : Type 0) (r : Schedule) (m : ℕ) (f : ℕ → Stage → Stage) (v p : ℕ) → ((i : ℕ) (s : Stage) → IsFine T r m s → Runs T r m s (f i s) v p)
     → (n : ℕ) (s : Stage) → IsFine T r m s → Runs T r m s (in_turn f n s) (n * v) (n * p)
-unfolding in_turn
-Runs-in_turn T r m f v p step zero s fine =
-    Runs-as T r m s s 0 0 _ _ (omega arith) (omega arith) (record { passes = Passes-refl T s.draft fine.sound; fine = fine })
-Runs-in_turn T r m f v p step (suc n) s fine =
-    let before = Runs-in_turn T r m f v p step n s fine in
-    Runs-as T r m _ _ _ _ _ _ (omega arith) (omega arith)
-    (Runs-trans T r m s (in_turn f n s) (f n (in_turn f n s)) (n * v) (n * p) v p before (step n (in_turn f n s) before.fine))
-
--- word k of a list of words
-pub word-at : (T : Type 0) (c : Netlist) (ws : List (List ℕ)) (k : ℕ) → k < length ws → All (IsWord T c) ws → IsWord T c (word ws k)
-word-at T c ws k inside all = All-get_or (IsWord T c) ws k [] inside all
-
-pub All-later : (T : Type 0) (c d : Netlist) (v p : ℕ) (ws : List (List ℕ)) → Passes T c d v p → All (IsWord T c) ws → All (IsWord T d) ws
-All-later T c d v p ws passes all = All-weaker (IsWord T c) (IsWord T d) (λ w is. IsWord-later T c d v p w passes is) ws all
+Runs-steps T r m f v p step n s fine =
+    Runs-in_turn T (λ (u : Stage). u.draft) (IsFine T r m) (λ u is. is.sound) f v p n s (λ i t w q inside runs. step i t runs.fine) n (omega arith) fine
 
 -- THE STEPS
 
@@ -103,15 +87,15 @@ module _ (T : Type 0) (r : Schedule) (shape : IsShape r) where
           nought = passes.kept s.nought fine.nought;
           one = passes.kept s.one fine.one;
           key_long = length-set s.key at _ ∙ fine.key_long;
-          key = All-set (IsWord T d) s.key at _ made (All-later T s.draft d 185 31 s.key passes fine.key);
+          key = All-set (IsWord T d) s.key at _ made (words-later T s.draft d 185 31 s.key passes fine.key);
           block_long = fine.block_long;
-          block = All-later T s.draft d 185 31 s.block passes fine.block;
+          block = words-later T s.draft d 185 31 s.block passes fine.block;
         };
       }
 
   pub Runs-key_updated : (m i : ℕ) (s : Stage) → IsFine T r m s → Runs T r m s (with_key_updated r i s) (length r.turns * 185) (length r.turns * 31)
   unfolding with_key_updated
-  Runs-key_updated m i s fine = Runs-in_turn T r m (with_word_updated r i) 185 31 (Runs-word_updated m i) (length r.turns) s fine
+  Runs-key_updated m i s fine = Runs-steps T r m (with_word_updated r i) 185 31 (Runs-word_updated m i) (length r.turns) s fine
 
   pub round_words-long : (i : ℕ) (key : List (List ℕ)) → length (round_words r i key) ≡ 6
   unfolding round_words
@@ -194,7 +178,7 @@ module _ (T : Type 0) (ks : List (List ℕ)) (r : Schedule) (s : Stage) (six : l
       nought = all_mixed.kept s.nought fine.nought;
       one = all_mixed.kept s.one fine.one;
       key_long = fine.key_long;
-      key = All-later T s.draft d₃ 747 93 s.key all_mixed fine.key;
+      key = words-later T s.draft d₃ 747 93 s.key all_mixed fine.key;
       block_long = refl;
       block = mixed_block;
     };
@@ -216,11 +200,11 @@ module _ (T : Type 0) (r : Schedule) (shape : IsShape r) where
       let t : Stage = with_key_updated r i s in
       let updated = Runs-key_updated T r shape 4 i s fine in
       let words = All-round_words T r shape i t.draft t.key updated.fine.key_long updated.fine.key in
-      Runs-trans T r 4 s t _ _ _ 747 93 updated
+      Runs-trans s t _ _ _ 747 93 updated
       (Runs-block_mixed T (round_words r i t.key) r t (round_words-long T r shape i t.key) words updated.fine)
 
   pub Runs-some_rounds : (i : ℕ) (s : Stage) → IsFine T r 4 s → Runs T r 4 s (in_turn (with_round r) i s) (i * round_values r) (i * round_products r)
-  Runs-some_rounds i s fine = Runs-in_turn T r 4 (with_round r) (round_values r) (round_products r) Runs-round i s fine
+  Runs-some_rounds i s fine = Runs-steps T r 4 (with_round r) (round_values r) (round_products r) Runs-round i s fine
 
   pub Runs-rounds : (s : Stage) → IsFine T r 4 s → Runs T r 4 s (with_rounds r s) (r.rounds * round_values r) (r.rounds * round_products r)
   unfolding with_rounds

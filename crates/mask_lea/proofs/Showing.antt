@@ -1,52 +1,23 @@
 -- What the values of a stage stand for: where bits solve all gates, the rounds on values compute the rounds on numbers.
-use Rattle.std.proofs.Common.{◌≡◌, ℕ, zero, suc, ◌+◌, ◌%◌, ◌^◌, ◌<◌, Bool, true, false, List, [], ◌∷◌, length, map, All, refl, sym, ap, ap₂, ◌∙◌, arith, lit<, bit_xor, slice_index}
+use Rattle.std.proofs.Common.{◌≡◌, ℕ, zero, suc, ◌+◌, ◌%◌, ◌^◌, ◌<◌, Bool, true, false, List, [], ◌∷◌, length, map, All, refl, ap, ap₂, ◌∙◌, arith, lit<, bit_xor, slice_index}
 use Rattle.std.proofs.Math.Nat.{mod-lt}
-use Rattle.std.proofs.Math.ListN.{get_or-map}
 use Rattle.std.proofs.lemmas.List.{map-set}
 use Rattle.std.proofs.lemmas.List.Elements.{All-from_recursion}
-use Rattle.mask_bits.specs.Reading.{number}
-use Rattle.mask_circuit.specs.declared.gates.Gate.{Gate}
 use Rattle.mask_circuit.specs.Netlist.{Netlist, value_count}
 use Rattle.mask_circuit.specs.Value.{value_at}
-use Rattle.mask_parts.specs.Drafts.{with_gates, with_outputs, Grows}
-use Rattle.mask_parts.specs.Words32.{with_xor32, xor32_results, with_sum32, sum32_results, rotated32, rol32, constant32}
-use Rattle.mask_parts.proofs.Adding.{sum32-solved}
-use Rattle.mask_parts.proofs.Solving.{Solves, Solves-left, Solves-right}
+use Rattle.mask_parts.specs.Turns.{in_turn}
+use Rattle.mask_parts.specs.Words32.{with_xor32, xor32_results, sum32_results, rol32, constant32, word}
+use Rattle.mask_parts.proofs.Solving.{Solved, Solved-Grows}
 use Rattle.mask_parts.proofs.WordFitting.{value_count-with_xor32, length-xor32_results, length-sum32_results, length-rotated32, length-constant32}
-use Rattle.mask_parts.proofs.WordNumbers.{number-rotated32, number-constant32}
-use Rattle.mask_parts.proofs.Xoring.{xor32-solved}
-use Rattle.mask_lea.specs.Lea.{Schedule, State, deltas, delta, place, in_turn, word_updated, key_updated, round_key, mixed, block_mixed, round, lea_words}
-use Rattle.mask_lea.specs.Rounds.{Stage, word, constant_word, with_word_updated, with_key_updated, round_words, with_mixed, mixed_results, with_block_mixed, with_round, with_rounds}
-use Rattle.mask_lea.proofs.Lengthening.{Lengthens, count-with_mixed, Grows-sum32, Grows-xor32, Grows-mixed, Lengthens-word_updated, Lengthens-block_mixed, Lengthens-round}
-use Rattle.mask_lea.proofs.Passing.{IsWord}
-use Rattle.mask_lea.proofs.Running.{IsShape, IsFine, slice_index-lt, place-lt, word-at, round_words-long, All-round_words, Runs-word_updated, Runs-key_updated, Runs-round}
-
--- the bits vs solve all gates of the draft
-abbrev pub Solved : List Bool → Netlist → Type 0
-Solved vs c = Solves vs c.inputs c.gates
-
-pub Solved-with_gates : (vs : List Bool) (c : Netlist) (gs : List Gate) → Solved vs (with_gates c gs) → Solved vs c × Solves vs (value_count c) gs
-unfolding with_gates
-Solved-with_gates vs c gs solved = (Solves-left vs c.inputs c.gates gs solved, Solves-right vs c.inputs c.gates gs solved)
-
-pub Solved-Grows : (vs : List Bool) (c d : Netlist) → Grows c d → Solved vs d → Solved vs c
-unfolding with_outputs
-Solved-Grows vs c d grows solved = (Solved-with_gates vs c grows.gates (rw grows.grown at solved)).0
-
--- the number that values stand for
-abbrev pub shown : List Bool → List ℕ → ℕ
-shown vs us = number (map (value_at vs) us)
+use Rattle.mask_parts.proofs.WordNumbers.{number-constant32}
+use Rattle.mask_parts.proofs.WordPassing.{Grows-sum32, Grows-xor32, IsWord, word-at}
+use Rattle.mask_parts.proofs.WordShowing.{shown, shown-xor32, shown-sum32, shown-rotated, shown-word}
+use Rattle.mask_lea.specs.Lea.{Schedule, State, deltas, delta, place, word_updated, key_updated, round_key, mixed, block_mixed, round, lea_words}
+use Rattle.mask_lea.specs.Rounds.{Stage, constant_word, with_word_updated, with_key_updated, round_words, with_mixed, mixed_results, with_block_mixed, with_round, with_rounds}
+use Rattle.mask_lea.proofs.Lengthening.{Lengthens, count-with_mixed, Grows-mixed, Lengthens-word_updated, Lengthens-block_mixed, Lengthens-round}
+use Rattle.mask_lea.proofs.Running.{IsShape, IsFine, slice_index-lt, place-lt, round_words-long, All-round_words, Runs-word_updated, Runs-key_updated, Runs-round}
 
 -- WORDS
-
-module _ (vs : List Bool) (c : Netlist) (x y : List ℕ) (x_long : length x ≡ 32) (y_long : length y ≡ 32) where
-  pub shown-xor32 : Solved vs (with_xor32 c x y) → shown vs (xor32_results (value_count c)) ≡ bit_xor (shown vs x) (shown vs y)
-  unfolding with_xor32
-  shown-xor32 solved = xor32-solved vs (value_count c) x y x_long y_long (Solved-with_gates vs c _ solved).1
-
-  pub shown-sum32 : Solved vs (with_sum32 c x y) → shown vs (sum32_results (value_count c)) ≡ (shown vs x + shown vs y) % 2 ^ 32
-  unfolding with_sum32
-  shown-sum32 solved = sum32-solved vs (value_count c) x y x_long y_long (Solved-with_gates vs c _ solved).1
 
 length-constant_word : (r : Schedule) (i j nought one : ℕ) → length (constant_word r i j nought one) ≡ 32
 unfolding constant_word
@@ -72,10 +43,6 @@ shown-mixed vs c x k y l x_long k_long y_long l_long solved =
     rw left_count at (shown-xor32 vs left y l y_long l_long solved_right) in
     rw (a, b, count) at (shown-sum32 vs right (xor32_results n) (xor32_results (n + 32)) (length-xor32_results n) (length-xor32_results (n + 32)) solved)
 
--- the number of a word in a list, and of none
-shown-word : (vs : List Bool) (ws : List (List ℕ)) (k : ℕ) → shown vs (word ws k) ≡ slice_index (map (shown vs) ws) k
-shown-word vs ws k = sym (get_or-map (shown vs) ws k [])
-
 shown-words : (vs : List Bool) (r : Schedule) (i : ℕ) (key : List (List ℕ)) → map (shown vs) (round_words r i key) ≡ round_key r i (map (shown vs) key)
 unfolding round_words round_key
 shown-words vs r i key = words r.taken
@@ -91,9 +58,6 @@ deltas-small = All-from_recursion (λ d. d < 2 ^ 32) deltas (lit< tt, (lit< tt, 
 delta-lt : (r : Schedule) (i : ℕ) → delta r i < 2 ^ 32
 unfolding delta
 delta-lt r i = slice_index-lt (2 ^ 32) deltas (lit< tt) deltas-small (i % r.words)
-
-shown-rotated : (vs : List Bool) (k : ℕ) (w : List ℕ) → k < 32 → length w ≡ 32 → shown vs (rotated32 k w) ≡ rol32 k (shown vs w)
-shown-rotated vs k w small long = number-rotated32 (value_at vs) k w small long
 
 shown-constant : (vs : List Bool) (r : Schedule) (i j nought one : ℕ) → value_at vs nought ≡ false → value_at vs one ≡ true
     → shown vs (constant_word r i j nought one) ≡ rol32 ((i + j) % 32) (delta r i)

@@ -1,10 +1,11 @@
 -- The block cipher LEA (ISO/IEC 29192-2:2019; Hong and others, WISA 2013) on words.
 --
 -- A word is a number below 2 ^ 32. A block is four words, and a key four, six or eight.
-use Rattle.std.specs.Prelude.{ℕ, zero, suc, ◌+◌, ◌-◌, ◌*◌, ◌/◌, ◌%◌, ◌^◌, List, [], ◌∷◌, length, map, bit_xor, slice_index, slice_set}
+use Rattle.std.specs.Prelude.{ℕ, ◌+◌, ◌-◌, ◌*◌, ◌%◌, ◌^◌, List, [], ◌∷◌, length, map, bit_xor, slice_index, slice_set}
 use Rattle.mask_tasks.specs.declared.sizes.LeaSize.{LeaSize}
 use Rattle.mask_tasks.specs.declared.sizes.LeaSize.TheVariants.{K128, K192, K256}
-use Rattle.mask_parts.specs.Words32.{rol32}
+use Rattle.mask_parts.specs.Turns.{in_turn}
+use Rattle.mask_parts.specs.Words32.{rol32, words_of, joined}
 
 -- What the size of a key decides: how many rounds there are; how many words the key has; by how many places a round
 -- rotates each word of the key that it updates, in order; and which of these words are its round key.
@@ -30,11 +31,6 @@ delta r i = slice_index deltas (i % r.words)
 -- Where in the key word j of round i is. With four or six words this is j itself, since a round updates all of them.
 unfoldable pub place : Schedule → ℕ → ℕ → ℕ
 place r i j = (length r.turns * i + j) % r.words
-
--- steps 0 to n - 1, one after another
-unfoldable pub in_turn : {A : Type 0} → (ℕ → A → A) → ℕ → A → A
-in_turn step zero a = a
-in_turn step (suc n) a = step n (in_turn step n a)
 
 -- word j of round i updated
 unfoldable pub word_updated : Schedule → ℕ → ℕ → List ℕ → List ℕ
@@ -82,16 +78,6 @@ round r i s =
 -- the encryption of a block of four words under the words of a key
 unfoldable pub lea_words : Schedule → List ℕ → List ℕ → List ℕ
 lea_words r key block = (in_turn (round r) r.rounds (record { key = key; block = block })).block
-
--- n words of a number, the lowest first
-unfoldable pub words_of : ℕ → ℕ → List ℕ
-words_of zero a = []
-words_of (suc n) a = a % 2 ^ 32 ∷ words_of n (a / 2 ^ 32)
-
--- the number of words of which the first is the lowest
-unfoldable pub joined : List ℕ → ℕ
-joined [] = 0
-joined (w ∷ ws) = w + 2 ^ 32 * joined ws
 
 -- the encryption of a block under a key of this size, as whole numbers in which bit j weighs 2 ^ j
 unfoldable pub lea : LeaSize → ℕ → ℕ → ℕ

@@ -2,10 +2,11 @@
 --
 -- A value is named by its number. A word is a list of 32 values, bit 0 first, and a key and a block are lists of words. Each
 -- part appends its gates to a draft and says which values stand for the key and the block afterwards.
-use Rattle.std.specs.Prelude.{◌≡◌, ℕ, ◌+◌, ◌-◌, ◌%◌, ◌<◌, List, [], ◌∷◌, length, map, All, slice_index, slice_index_or, slice_set}
+use Rattle.std.specs.Prelude.{ℕ, ◌+◌, ◌-◌, ◌%◌, List, [], ◌∷◌, length, map, slice_index, slice_set}
 use Rattle.mask_circuit.specs.Netlist.{Netlist, value_count}
-use Rattle.mask_parts.specs.Words32.{with_xor32, xor32_results, with_sum32, sum32_results, rotated32, constant32}
-use Rattle.mask_lea.specs.Lea.{Schedule, delta, place, in_turn}
+use Rattle.mask_parts.specs.Turns.{in_turn}
+use Rattle.mask_parts.specs.Words32.{with_xor32, xor32_results, with_sum32, sum32_results, rotated32, constant32, word}
+use Rattle.mask_lea.specs.Lea.{Schedule, delta, place}
 
 -- a draft, the values that are always 0 and 1, and those that stand for the key and for the block
 pub record Stage : Type 0 where
@@ -17,10 +18,6 @@ pub record Stage : Type 0 where
 
 unfoldable pub stage : Netlist → ℕ → ℕ → List (List ℕ) → List (List ℕ) → Stage
 stage c nought one key block = record { draft = c; nought = nought; one = one; key = key; block = block }
-
--- word k of these
-abbrev pub word : List (List ℕ) → ℕ → List ℕ
-word ws k = slice_index_or ws k []
 
 -- the constant of word j in round i, without gates
 unfoldable pub constant_word : Schedule → ℕ → ℕ → ℕ → ℕ → List ℕ
@@ -74,7 +71,3 @@ with_round r i s =
 
 unfoldable pub with_rounds : Schedule → Stage → Stage
 with_rounds r s = in_turn (with_round r) r.rounds s
-
--- these are words of values of the draft
-abbrev pub AreWordsOf : Netlist → List (List ℕ) → Type 0
-AreWordsOf c ws = All (λ w. (length w ≡ 32) × All (λ u. u < value_count c) w) ws

@@ -6,8 +6,9 @@ ghost use Rattle.mask_circuit.specs.Netlist.{value_count, only_inputs};
 ghost use Rattle.mask_check.specs.Costs.{most_steps};
 ghost use Rattle.mask_parts.specs.CipherCircuits.{IsCipherCircuit};
 ghost use Rattle.mask_parts.specs.Drafts.{Lays};
+ghost use Rattle.mask_parts.specs.Words32.{AreWordsOf};
 ghost use Rattle.mask_lea.specs.Lea.{schedule};
-ghost use Rattle.mask_lea.specs.Rounds.{with_rounds, AreWordsOf};
+ghost use Rattle.mask_lea.specs.Rounds.{with_rounds};
 ghost use Rattle.mask_lea.specs.NamedLea.{width, words_from, start, with_blocks_xored, named_lea, size_lea, lea_of_bits};
 
 use crate::round::Word;
@@ -15,20 +16,10 @@ use crate::rounds::encrypt;
 use crate::schedule::words;
 use mask_check::Strong;
 use mask_circuit::{Builder, Circuit, CircuitError, Steps};
-use mask_parts::{fence_outputs, strong_circuit, xor32};
+use mask_parts::{fence_outputs, number_from, strong_circuit, xor32};
 use mask_tasks::LeaSize;
 use std::alloc::{AllocError, Global};
 use std::sync::ledger::Ledger;
-
-// Numbers the places, from `first` on.
-fn number_from(places: &mut [u32], first: u32)
-    requires { first + length places.old ≤ 2 ^ 32 }
-    ensures { places.new ≡ range_with_len first (length places.old) }
-{
-    for (k, place) in places.iter_mut().enumerate() {
-        *place = first + k as u32;
-    }
-}
 
 // A word of values in a row.
 fn word_from(first: u32) -> Word

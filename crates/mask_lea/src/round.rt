@@ -3,7 +3,8 @@
 ghost use Rattle.std.specs.Prelude.{◌≡◌, ℕ, ◌+◌, ◌<◌, List, [], length, All};
 ghost use Rattle.mask_circuit.specs.Netlist.{value_count};
 ghost use Rattle.mask_parts.specs.Drafts.{Lays};
-ghost use Rattle.mask_lea.specs.Rounds.{stage, with_mixed, mixed_results, with_block_mixed, AreWordsOf};
+ghost use Rattle.mask_parts.specs.Words32.{AreWordsOf};
+ghost use Rattle.mask_lea.specs.Rounds.{stage, with_mixed, mixed_results, with_block_mixed};
 
 use mask_circuit::{Builder, CircuitError};
 use mask_parts::{add32, rot32, xor32};

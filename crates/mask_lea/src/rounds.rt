@@ -3,8 +3,9 @@
 ghost use Rattle.std.specs.Prelude.{◌≡◌, ℕ, ◌<◌, List, length, All, OnOk};
 ghost use Rattle.mask_circuit.specs.Netlist.{value_count};
 ghost use Rattle.mask_parts.specs.Drafts.{Lays};
+ghost use Rattle.mask_parts.specs.Words32.{AreWordsOf};
 ghost use Rattle.mask_lea.specs.Lea.{schedule};
-ghost use Rattle.mask_lea.specs.Rounds.{stage, with_round, with_rounds, AreWordsOf};
+ghost use Rattle.mask_lea.specs.Rounds.{stage, with_round, with_rounds};
 
 use crate::round::{Word, mix_block};
 use crate::schedule::{round_key, rounds, update};

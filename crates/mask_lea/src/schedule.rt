@@ -3,8 +3,9 @@
 ghost use Rattle.std.specs.Prelude.{◌≡◌, ℕ, ◌+◌, ◌<◌, ◌≤◌, List, [], length, All, OnOk};
 ghost use Rattle.mask_circuit.specs.Netlist.{value_count};
 ghost use Rattle.mask_parts.specs.Drafts.{Lays};
+ghost use Rattle.mask_parts.specs.Words32.{AreWordsOf};
 ghost use Rattle.mask_lea.specs.Lea.{schedule, delta, place};
-ghost use Rattle.mask_lea.specs.Rounds.{stage, constant_word, with_word_updated, with_key_updated, round_words, AreWordsOf};
+ghost use Rattle.mask_lea.specs.Rounds.{stage, constant_word, with_word_updated, with_key_updated, round_words};
 
 use crate::round::Word;
 use mask_circuit::{Builder, CircuitError};

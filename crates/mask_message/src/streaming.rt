@@ -6,7 +6,7 @@ ghost use Rattle.mask_io.specs.Outside.{faults_after};
 ghost use Rattle.mask_tasks.specs.Tasks.{key_bytes};
 ghost use Rattle.mask_keys.specs.Lines.{AreKeyLines, line_length};
 ghost use Rattle.mask_bits.specs.Reading.{AreBytes};
-ghost use Rattle.mask_counter.specs.Batches.{stand};
+ghost use Rattle.mask_trace.specs.Drawing.{stand};
 ghost use Rattle.mask_plan.specs.declared.session.Stop.{Stop};
 ghost use Rattle.mask_plan.specs.declared.session.PlanError.TheVariants as PlanError;
 ghost use Rattle.mask_ciphers.specs.Methods.{IsCipher, start_steps};

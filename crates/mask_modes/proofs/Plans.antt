@@ -9,6 +9,7 @@ use Rattle.mask_shares.proofs.Lists.{get_or-each}
 use Rattle.mask_trace.specs.Steps.{InputBit, Public, Plain, Key, Step, IsThere, IsNotHeld, IsStrongStep, IsStrongPlan}
 use Rattle.mask_trace.specs.Privacy.{AreAlike, without_message}
 use Rattle.mask_trace.proofs.Showing.{plans_are_private}
+use Rattle.mask_trace.proofs.Taking.{IsOnce, held_once, inputs_are_alike, with_inputs}
 use Rattle.mask_modes.specs.CounterMode.{block_count}
 use Rattle.mask_modes.specs.Steps.{Cipher, Mode, Enciphers, blocks, block_step, refresh_step, steps_from, steps_of, is_due}
 use Rattle.mask_modes.specs.Laws.{StepsAreStrong, RunsArePrivate}
@@ -22,30 +23,9 @@ use Rattle.mask_laws.proofs.CircuitNames.{All-each}
 key_there : (k s : ℕ) → All (IsThere k s) (each Key k)
 key_there k s = All-each (IsThere k s) Key k (λ i lt. lt)
 
--- .. each bit at its place
-key_at : (k i : ℕ) (more : List InputBit) → i < k → get_or (each Key k ++ more) i (Public false) ≡ Key i
-key_at k i more lt = get_or_append_left (each Key k) more (Public false) i (omega (arith, length-each Key k)) ∙ get_or-each Key k i (Public false) lt
-
--- no bit that a register holds is there twice
-abbrev IsOnce : List InputBit → Type 0
-IsOnce is = (u v : ℕ) → u < v → v < length is → get_or is u (Public false) ≡ get_or is v (Public false) → IsNotHeld (get_or is u (Public false))
-
--- the key, and bits that no register holds
+-- and nothing of it twice, before bits that no register holds
 key_once : (k : ℕ) (more : List InputBit) → All IsNotHeld more → IsOnce (each Key k ++ more)
-key_once k more none u v lt within same = go (cases_lt u k) (cases_lt v k)
-  where
-    behind : (i : ℕ) → k ≤ i → i < length (each Key k ++ more) → IsNotHeld (get_or (each Key k ++ more) i (Public false))
-    behind i ge l =
-        let size : length (each Key k) ≡ k = length-each Key k in
-        subst IsNotHeld (sym (get_or-append_right (each Key k) more k i (Public false) size ge)) (none (i - k) (Public false) (omega (arith, length-append (each Key k) more)))
-
-    go : (u < k) ⊎ (k ≤ u) → (v < k) ⊎ (k ≤ v) → IsNotHeld (get_or (each Key k ++ more) u (Public false))
-    go (inl below) (inl low) =
-        let keys : Key u ≡ Key v = sym (key_at k u more below) ∙ same ∙ key_at k v more low in
-        let e : u ≡ v = cc in
-        absurd (omega arith)
-    go (inl below) (inr high) = subst IsNotHeld (sym same) (behind v high within)
-    go (inr above) other = behind u above (omega arith)
+key_once k more none = held_once Key (λ i j same. cc) k more none
 
 -- the key, public bits and message bits: all are there, and none of a register twice
 all_there : (k : ℕ) (public message : List Bool) → All (IsThere k 0) (each Key k ++ (map Public public ++ map Plain message))
@@ -68,25 +48,13 @@ length-all k public message =
 
 -- MESSAGE BITS
 
-hidden : (xs ys : List Bool) → length xs ≡ length ys → map without_message (map Plain xs) ≡ map without_message (map Plain ys)
-hidden [] [] e = refl
-hidden [] (y ∷ ys) e = absurd (omega arith)
-hidden (x ∷ xs) [] e = absurd (omega arith)
-hidden (x ∷ xs) (y ∷ ys) e = ap (λ l. Plain false ∷ l) (hidden xs ys (omega arith))
-
--- inputs with as many message bits are the same but for these
-inputs_are_alike : (k : ℕ) (public xs ys : List Bool) → length xs ≡ length ys →
+-- the inputs of a block with as many message bits are the same but for these
+blocks_are_alike : (k : ℕ) (public xs ys : List Bool) → length xs ≡ length ys →
     map without_message (each Key k ++ (map Public public ++ map Plain xs)) ≡ map without_message (each Key k ++ (map Public public ++ map Plain ys))
-inputs_are_alike k public xs ys e = parts xs ∙ ap (λ l. map without_message (each Key k) ++ (map without_message (map Public public) ++ l)) (hidden xs ys e) ∙ sym (parts ys)
-  where
-    parts : (bs : List Bool) → map without_message (each Key k ++ (map Public public ++ map Plain bs))
-        ≡ map without_message (each Key k) ++ (map without_message (map Public public) ++ map without_message (map Plain bs))
-    parts bs =
-        map-append without_message (each Key k) (map Public public ++ map Plain bs)
-        ∙ ap (λ l. map without_message (each Key k) ++ l) (map-append without_message (map Public public) (map Plain bs))
-
-abbrev with_inputs : Step → List InputBit → Step
-with_inputs s is = record s { inputs = is }
+blocks_are_alike k public xs ys e =
+    map-append without_message (each Key k) (map Public public ++ map Plain xs)
+    ∙ ap (λ l. map without_message (each Key k) ++ l) (inputs_are_alike (map Public public) xs ys e)
+    ∙ sym (map-append without_message (each Key k) (map Public public ++ map Plain ys))
 
 module _ (m : Mode) (cipher : Cipher) (is : Enciphers cipher m) where
   pub block_step_is_strong : (i : ℕ) (block : List ℕ) → length block ≡ m.block → IsStrongStep m.key 0 (block_step m i block)
@@ -130,15 +98,15 @@ module _ (m : Mode) (cipher : Cipher) (is : Enciphers cipher m) where
   steps_are_alike i (b ∷ part) [] all all' e = absurd (omega arith)
   steps_are_alike i (block ∷ part) (block' ∷ other) all all' e =
       go (is_due i)
-      (ap₂ (λ (is : List InputBit) (l : List Step). with_inputs (block_step m i block) is ∷ l)
-      (inputs_are_alike m.key _ (m.reading block) (m.reading block')
+      (ap₂ (λ (is : List InputBit) (l : List Step). with_inputs is (block_step m i block) ∷ l)
+      (blocks_are_alike m.key _ (m.reading block) (m.reading block')
       (is.reads.count block ∙ ap (λ (n : ℕ). 8 * n) (all 0 [] (omega arith) ∙ sym (all' 0 [] (omega arith))) ∙ sym (is.reads.count block')))
       (steps_are_alike (suc i) part other (All-tail (λ b. length b ≡ m.block) block part all) (All-tail (λ b. length b ≡ m.block) block' other all') (omega arith)))
     where
       go : (due : Bool) → AreAlike (block_step m i block ∷ steps_from m (suc i) part) (block_step m i block' ∷ steps_from m (suc i) other) →
           AreAlike (cond due (refresh_step m ∷ []) [] ++ block_step m i block ∷ steps_from m (suc i) part)
           (cond due (refresh_step m ∷ []) [] ++ block_step m i block' ∷ steps_from m (suc i) other)
-      go true rest = ap (λ (l : List Step). with_inputs (refresh_step m) (map without_message (each Key m.key)) ∷ l) rest
+      go true rest = ap (λ (l : List Step). with_inputs (map without_message (each Key m.key)) (refresh_step m) ∷ l) rest
       go false rest = rest
 
 pub steps_are_strong : StepsAreStrong

@@ -15,9 +15,9 @@ use Rattle.mask_parts.specs.Tables.{gates_from, part_usable, is_part, with_part}
 use Rattle.mask_parts.specs.Tidiness.{IsFree, KeepsTidy}
 use Rattle.mask_parts.specs.Words32.{half_adder, full_adder, ripple, sum32_steps, sum32_gates, with_sum32, sum_place, sum32_results}
 use Rattle.mask_parts.proofs.PartGates.{AreGates-part}
-use Rattle.mask_parts.proofs.PartTidiness.{AreFree, KeepsTidy-part}
+use Rattle.mask_parts.proofs.PartTidiness.{AreFree, are_usable, KeepsTidy-usable}
 use Rattle.mask_parts.proofs.Solving.{Solves, Solves-with_gates, bits_of-with_gates}
-use Rattle.mask_parts.proofs.WordParts.{length-both, first_word, second_word, are_usable, IsFree-usable}
+use Rattle.mask_parts.proofs.WordParts.{length-both, first_word, second_word}
 
 -- GATES
 
@@ -28,14 +28,6 @@ is_part-sum32 = refl
 pub length-sum32_gates : (n : ℕ) (xs ys : List ℕ) → length (sum32_gates n xs ys) ≡ 185
 unfolding sum32_gates sum32_steps
 length-sum32_gates n xs ys = refl
-
-pub products-sum32_gates : (n : ℕ) (xs ys : List ℕ) → count_by is_product (sum32_gates n xs ys) ≡ 31
-unfolding sum32_gates sum32_steps
-products-sum32_gates n xs ys = refl
-
-pub refreshes-sum32_gates : (n : ℕ) (xs ys : List ℕ) → count_by is_refresh (sum32_gates n xs ys) ≡ 31
-unfolding sum32_gates sum32_steps
-refreshes-sum32_gates n xs ys = refl
 
 pub AreGates-sum32 : (n : ℕ) (xs ys : List ℕ) → length xs ≡ 32 → length ys ≡ 32 → All (λ u. u < n) xs → All (λ u. u < n) ys → AreGates n (sum32_gates n xs ys)
 unfolding sum32_gates
@@ -191,26 +183,14 @@ number-with_sum32 c xs ys x x_long y_long x_below y_below long =
 
 -- TIDINESS
 
-usable_results : are_usable (part_usable sum32_steps) (map sum_place (range_with_len 0 32)) ≡ true
+pub usable-sum32 : are_usable (part_usable sum32_steps) (map sum_place (range_with_len 0 32)) ≡ true
 unfolding sum32_steps
-usable_results = refl
+usable-sum32 = refl
 
-results_from : (n : ℕ) → map (λ k. n + k) (map sum_place (range_with_len 0 32)) ≡ sum32_results n
+pub results_from : (n : ℕ) → map (λ k. n + k) (map sum_place (range_with_len 0 32)) ≡ sum32_results n
 unfolding sum32_results
 results_from n = refl
 
 -- where the values that its table flags are free, so are its results
 pub KeepsTidy-sum32_results : (c d : Netlist) (n : ℕ) → KeepsTidy c d [] → AreFree d n (part_usable sum32_steps) → KeepsTidy c d (sum32_results n)
-KeepsTidy-sum32_results c d n kept free = record {
-  tidy = kept.tidy;
-  results_free = subst (All (IsFree d)) (results_from n) (IsFree-usable d n (part_usable sum32_steps) (map sum_place (range_with_len 0 32)) free usable_results);
-  still_free = kept.still_free;
-}
-
--- on free values it keeps a draft tidy, and its results are free
-pub KeepsTidy-sum32 : (c : Netlist) (xs ys : List ℕ) → AreGates c.inputs c.gates → length xs ≡ 32 → length ys ≡ 32 → All (λ u. u < value_count c) xs →
-    All (λ u. u < value_count c) ys → IsTidy c → All (IsFree c) xs → All (IsFree c) ys → KeepsTidy c (with_sum32 c xs ys) (sum32_results (value_count c))
-KeepsTidy-sum32 c xs ys are x_long y_long x_below y_below tidy x_free y_free =
-    let kept = KeepsTidy-part c (xs ++ ys) sum32_steps are (All-append (λ u. u < value_count c) xs ys x_below y_below)
-    (rw (length-both xs ys x_long y_long) is_part-sum32) tidy (All-append (IsFree c) xs ys x_free y_free) in
-    rw (with_sum32-with_part c xs ys) (KeepsTidy-sum32_results c (with_part c (xs ++ ys) sum32_steps) (value_count c) kept.0 kept.1)
+KeepsTidy-sum32_results c d n kept free = KeepsTidy-usable c d n (part_usable sum32_steps) (map sum_place (range_with_len 0 32)) (sum32_results n) usable-sum32 (results_from n) kept free

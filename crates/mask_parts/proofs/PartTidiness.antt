@@ -1,8 +1,8 @@
 -- A sound table keeps a draft tidy, and later steps may take what its flags say.
-use Rattle.std.proofs.Common.{◌≡◌, ℕ, zero, suc, ◌+◌, ◌-◌, ◌<◌, ◌≤◌, ◌⊎◌, inl, inr, Bool, true, false, Some, List, [], ◌∷◌, ◌++◌, length, All, refl, ap, sym, ◌∙◌, subst, arith, add-zero, length-append}
+use Rattle.std.proofs.Common.{◌≡◌, ℕ, zero, suc, ◌+◌, ◌-◌, ◌<◌, ◌≤◌, ◌⊎◌, inl, inr, Bool, true, false, ◌&&◌, Some, List, [], ◌∷◌, ◌++◌, length, map, All, refl, ap, sym, ◌∙◌, subst, arith, add-zero, length-append}
 use Rattle.std.proofs.lemmas.Bool.{cases_lt, false≢true, ltb-true, and_parts}
 use Rattle.std.proofs.lemmas.List.{get_or_append_left, get_or-append-add}
-use Rattle.std.proofs.lemmas.List.Elements.{All-head}
+use Rattle.std.proofs.lemmas.List.Elements.{All-nil, All-cons, All-head}
 use Rattle.mask_circuit.specs.declared.gates.Gate.{Gate}
 use Rattle.mask_circuit.specs.declared.gates.Gate.TheVariants.{Xor as XorGate, Not as NotGate}
 use Rattle.mask_circuit.specs.Netlist.{Netlist, AreGates, value_count, is_product}
@@ -171,3 +171,21 @@ KeepsTidy-part c xs ss are below sound t free = gates_kept c (value_count c) xs 
   given_free = free;
   made_free = λ k e. absurd (false≢true e);
 }) sound
+
+-- RESULTS
+
+-- these values of a part may all be taken
+abbrev pub are_usable : List Bool → List ℕ → Bool
+are_usable made [] = true
+are_usable made (k ∷ ks) = value_at made k && are_usable made ks
+
+pub IsFree-usable : (d : Netlist) (n : ℕ) (made : List Bool) (ks : List ℕ) → AreFree d n made → are_usable made ks ≡ true → All (IsFree d) (map (λ k. n + k) ks)
+IsFree-usable d n made [] free usable = All-nil (IsFree d)
+IsFree-usable d n made (k ∷ ks) free usable =
+    All-cons (IsFree d) (n + k) (map (λ k. n + k) ks) (free k (and_parts _ _ usable).0) (IsFree-usable d n made ks free (and_parts _ _ usable).1)
+
+-- so a part keeps a draft tidy, whose results are such values
+pub KeepsTidy-usable : (c d : Netlist) (n : ℕ) (made : List Bool) (ks us : List ℕ) → are_usable made ks ≡ true → map (λ k. n + k) ks ≡ us → KeepsTidy c d [] → AreFree d n made
+    → KeepsTidy c d us
+KeepsTidy-usable c d n made ks us usable are kept free =
+    record { tidy = kept.tidy; results_free = subst (All (IsFree d)) are (IsFree-usable d n made ks free usable); still_free = kept.still_free }

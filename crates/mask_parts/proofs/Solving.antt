@@ -6,7 +6,7 @@ use Rattle.mask_circuit.specs.declared.gates.Gate.{Gate}
 use Rattle.mask_circuit.specs.declared.gates.Gate.TheVariants.{Zero, One, Xor, Not, And, Ref}
 use Rattle.mask_circuit.specs.Netlist.{Netlist, OperandsBelow, AreGates, value_count}
 use Rattle.mask_circuit.specs.Value.{xor, value_at, gate_value, values_from, plain_values}
-use Rattle.mask_parts.specs.Drafts.{with_gates, with_outputs, bits_of}
+use Rattle.mask_parts.specs.Drafts.{with_gates, with_outputs, bits_of, Grows}
 
 -- each value is what its gate makes of the values, where the first of these gates makes value n
 abbrev pub Solves : List Bool → ℕ → List Gate → Type 0
@@ -111,3 +111,18 @@ bits_of-with_gates c gs x (u ∷ us) long below =
 pub bits_of-with_outputs : (c : Netlist) (vs : List ℕ) (x : List Bool) (us : List ℕ) → bits_of (with_outputs c vs) x us ≡ bits_of c x us
 unfolding bits_of with_outputs
 bits_of-with_outputs c vs x us = refl
+
+-- WHOLE DRAFTS
+
+-- the bits vs solve all gates of the draft
+abbrev pub Solved : List Bool → Netlist → Type 0
+Solved vs c = Solves vs c.inputs c.gates
+
+pub Solved-with_gates : (vs : List Bool) (c : Netlist) (gs : List Gate) → Solved vs (with_gates c gs) → Solved vs c × Solves vs (value_count c) gs
+unfolding with_gates
+Solved-with_gates vs c gs solved = (Solves-left vs c.inputs c.gates gs solved, Solves-right vs c.inputs c.gates gs solved)
+
+-- so they solve those of a draft that it grew from
+pub Solved-Grows : (vs : List Bool) (c d : Netlist) → Grows c d → Solved vs d → Solved vs c
+unfolding with_outputs
+Solved-Grows vs c d grows solved = (Solved-with_gates vs c grows.gates (rw grows.grown at solved)).0

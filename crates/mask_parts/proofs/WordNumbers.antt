@@ -19,7 +19,7 @@ xor-digit m n r s r_small s_small =
     rw (left, right, xor_block 1 m n r s r_small s_small) (omega arith)
 
 -- one bit more
-xor-low : (x y : Bool) (m n : ℕ) → bit_xor ((if x then 1 else 0) + 2 * m) ((if y then 1 else 0) + 2 * n) ≡ (if xor x y then 1 else 0) + 2 * bit_xor m n
+pub xor-low : (x y : Bool) (m n : ℕ) → bit_xor ((if x then 1 else 0) + 2 * m) ((if y then 1 else 0) + 2 * n) ≡ (if xor x y then 1 else 0) + 2 * bit_xor m n
 xor-low true true m n = xor-digit m n 1 1 (lit< tt) (lit< tt)
 xor-low true false m n = xor-digit m n 1 0 (lit< tt) (lit< tt)
 xor-low false true m n = xor-digit m n 0 1 (lit< tt) (lit< tt)

@@ -10,8 +10,6 @@ use Rattle.mask_circuit.specs.Value.{value_at}
 use Rattle.mask_parts.specs.Tidiness.{IsFree}
 use Rattle.mask_parts.proofs.PartTidiness.{AreFree}
 
--- OPERANDS
-
 pub length-both : {X : Type 0} (xs ys : List X) → length xs ≡ 32 → length ys ≡ 32 → length (xs ++ ys) ≡ 64
 length-both xs ys x_long y_long = omega (arith, length-append xs ys)
 
@@ -25,15 +23,3 @@ module _ {X Y : Type 0} (f : X → Y) (d : X) (e : Y) (xs ys : List X) (x_long :
   second_word y_long = sym (fill_by_all (λ i. f (get_or (xs ++ ys) (32 + i) d)) (map f ys) 32 e (length-map ys f ∙ y_long)
       (λ k lt. get_or-map f ys k d e (omega arith)
       ∙ ap f (sym (get_or-append-add xs ys k d) ∙ ap (λ n. get_or (xs ++ ys) (n + k) d) x_long)))
-
--- RESULTS
-
--- these values of a part may all be taken
-abbrev pub are_usable : List Bool → List ℕ → Bool
-are_usable made [] = true
-are_usable made (k ∷ ks) = value_at made k && are_usable made ks
-
-pub IsFree-usable : (d : Netlist) (n : ℕ) (made : List Bool) (ks : List ℕ) → AreFree d n made → are_usable made ks ≡ true → All (IsFree d) (map (λ k. n + k) ks)
-IsFree-usable d n made [] free usable = All-nil (IsFree d)
-IsFree-usable d n made (k ∷ ks) free usable =
-    All-cons (IsFree d) (n + k) (map (λ k. n + k) ks) (free k (and_parts _ _ usable).0) (IsFree-usable d n made ks free (and_parts _ _ usable).1)

@@ -13,10 +13,10 @@ use Rattle.mask_parts.specs.Tables.{part_bits, part_usable, is_part, with_part}
 use Rattle.mask_parts.specs.Tidiness.{IsFree, KeepsTidy}
 use Rattle.mask_parts.specs.Words32.{xor32_steps, xor32_gates, with_xor32, xor32_results}
 use Rattle.mask_parts.proofs.PartGates.{AreGates-part, part_bits-solved}
-use Rattle.mask_parts.proofs.PartTidiness.{AreFree, KeepsTidy-part}
+use Rattle.mask_parts.proofs.PartTidiness.{AreFree, are_usable, KeepsTidy-usable}
 use Rattle.mask_parts.proofs.Solving.{Solves, Solves-with_gates, bits_of-with_gates}
 use Rattle.mask_parts.proofs.WordNumbers.{number-xor}
-use Rattle.mask_parts.proofs.WordParts.{length-both, first_word, second_word, are_usable, IsFree-usable}
+use Rattle.mask_parts.proofs.WordParts.{length-both, first_word, second_word}
 
 -- GATES
 
@@ -27,14 +27,6 @@ is_part-xor32 = refl
 pub length-xor32_gates : (n : ℕ) (xs ys : List ℕ) → length (xor32_gates n xs ys) ≡ 32
 unfolding xor32_gates xor32_steps
 length-xor32_gates n xs ys = refl
-
-pub products-xor32_gates : (n : ℕ) (xs ys : List ℕ) → count_by is_product (xor32_gates n xs ys) ≡ 0
-unfolding xor32_gates xor32_steps
-products-xor32_gates n xs ys = refl
-
-pub refreshes-xor32_gates : (n : ℕ) (xs ys : List ℕ) → count_by is_refresh (xor32_gates n xs ys) ≡ 0
-unfolding xor32_gates xor32_steps
-refreshes-xor32_gates n xs ys = refl
 
 pub AreGates-xor32 : (n : ℕ) (xs ys : List ℕ) → length xs ≡ 32 → length ys ≡ 32 → All (λ u. u < n) xs → All (λ u. u < n) ys → AreGates n (xor32_gates n xs ys)
 unfolding xor32_gates
@@ -92,22 +84,10 @@ number-with_xor32 c xs ys x x_long y_long x_below y_below long =
 
 -- TIDINESS
 
-usable_results : are_usable (part_usable xor32_steps) (range_with_len 0 32) ≡ true
+pub usable-xor32 : are_usable (part_usable xor32_steps) (range_with_len 0 32) ≡ true
 unfolding xor32_steps
-usable_results = refl
+usable-xor32 = refl
 
 -- where the values that its table flags are free, so are its results
 pub KeepsTidy-xor32_results : (c d : Netlist) (n : ℕ) → KeepsTidy c d [] → AreFree d n (part_usable xor32_steps) → KeepsTidy c d (xor32_results n)
-KeepsTidy-xor32_results c d n kept free = record {
-  tidy = kept.tidy;
-  results_free = subst (All (IsFree d)) (xor32_results-bits n) (IsFree-usable d n (part_usable xor32_steps) (range_with_len 0 32) free usable_results);
-  still_free = kept.still_free;
-}
-
--- on free values it keeps a draft tidy, and its results are free
-pub KeepsTidy-xor32 : (c : Netlist) (xs ys : List ℕ) → AreGates c.inputs c.gates → length xs ≡ 32 → length ys ≡ 32 → All (λ u. u < value_count c) xs →
-    All (λ u. u < value_count c) ys → IsTidy c → All (IsFree c) xs → All (IsFree c) ys → KeepsTidy c (with_xor32 c xs ys) (xor32_results (value_count c))
-KeepsTidy-xor32 c xs ys are x_long y_long x_below y_below tidy x_free y_free =
-    let kept = KeepsTidy-part c (xs ++ ys) xor32_steps are (All-append (λ u. u < value_count c) xs ys x_below y_below)
-    (rw (length-both xs ys x_long y_long) is_part-xor32) tidy (All-append (IsFree c) xs ys x_free y_free) in
-    rw (with_xor32-with_part c xs ys) (KeepsTidy-xor32_results c (with_part c (xs ++ ys) xor32_steps) (value_count c) kept.0 kept.1)
+KeepsTidy-xor32_results c d n kept free = KeepsTidy-usable c d n (part_usable xor32_steps) (range_with_len 0 32) (xor32_results n) usable-xor32 (xor32_results-bits n) kept free

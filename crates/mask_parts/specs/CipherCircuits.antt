@@ -1,5 +1,5 @@
 -- What the crates above know of a cipher's circuit.
-use Rattle.std.specs.Prelude.{◌≡◌, ℕ, ◌≤◌, Bool, List, length}
+use Rattle.std.specs.Prelude.{◌≡◌, ℕ, suc, ◌*◌, ◌/◌, ◌≤◌, Bool, List, length}
 use Rattle.mask_circuit.specs.Netlist.{Netlist, IsCircuit, value_count, product_count, refresh_count}
 use Rattle.mask_circuit.specs.Value.{plain}
 use Rattle.mask_circuit.specs.Acceptance.{IsStrong}
@@ -21,6 +21,10 @@ size_of c = record {
   refreshes = refresh_count c;
   values = value_count c;
 }
+
+-- the bits that a product or a refresh draws at order d: one for each pair of shares
+abbrev pub gate_bits : ℕ → ℕ
+gate_bits d = d * suc d / 2
 
 -- The circuit c is exactly the named one and is of that size; it's strong, and by that strongly non-interfering for every
 -- number of shares; and on all input bits its plain outputs are f of them. What f is comes from the cipher's standard alone.

@@ -2,6 +2,8 @@ pub mod CipherCircuits
 pub mod Drafts
 pub mod Fences
 pub mod PresentSbox
+pub mod Rows
 pub mod Tables
 pub mod Tidiness
+pub mod Turns
 pub mod Words32

@@ -1,8 +1,8 @@
--- Words of 32 bits: their XOR and their sum as parts, rotations and constants.
+-- Words of 32 bits: their XOR and their sum as parts, rotations and constants; lists of words, and the number of one.
 --
 -- A word is a list of 32 values, bit 0 first; bit i weighs 2 ^ i. A part on two words x and y is handed the bits of x and
 -- then those of y, so bit i of x is at Given i, and bit i of y at Given (32 + i).
-use Rattle.std.specs.Prelude.{ℕ, zero, suc, ◌+◌, ◌-◌, ◌*◌, ◌/◌, ◌%◌, ◌^◌, ◌==◌, List, [], ◌∷◌, ◌++◌, map, take, drop, if◌then◌else◌}
+use Rattle.std.specs.Prelude.{◌≡◌, ℕ, zero, suc, ◌+◌, ◌-◌, ◌*◌, ◌/◌, ◌%◌, ◌^◌, ◌==◌, ◌<◌, List, [], ◌∷◌, ◌++◌, length, map, take, drop, All, slice_index_or, if◌then◌else◌}
 use Rattle.std.specs.List.{range_with_len}
 use Rattle.mask_bits.specs.Reading.{lowest}
 use Rattle.mask_circuit.specs.declared.gates.Gate.{Gate}
@@ -93,3 +93,25 @@ rol32 k n = n * 2 ^ k % 2 ^ 32 + n / 2 ^ (32 - k)
 -- bit by bit the value `one` or the value `zero`
 unfoldable pub constant32 : ℕ → ℕ → ℕ → List ℕ
 constant32 nought one word = map (λ b. if b then one else nought) (lowest 32 word)
+
+-- LISTS OF WORDS
+
+-- word k of these
+abbrev pub word : List (List ℕ) → ℕ → List ℕ
+word ws k = slice_index_or ws k []
+
+-- these are words of values of the draft
+abbrev pub AreWordsOf : Netlist → List (List ℕ) → Type 0
+AreWordsOf c ws = All (λ w. (length w ≡ 32) × All (λ u. u < value_count c) w) ws
+
+-- WORDS AS NUMBERS BELOW 2 ^ 32
+
+-- n words of a number, the lowest first
+unfoldable pub words_of : ℕ → ℕ → List ℕ
+words_of zero a = []
+words_of (suc n) a = a % 2 ^ 32 ∷ words_of n (a / 2 ^ 32)
+
+-- the number of words of which the first is the lowest
+unfoldable pub joined : List ℕ → ℕ
+joined [] = 0
+joined (w ∷ ws) = w + 2 ^ 32 * joined ws

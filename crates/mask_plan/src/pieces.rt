@@ -5,7 +5,7 @@ ghost use Rattle.mask_io.specs.Outside.{faults_after};
 ghost use Rattle.mask_tape.specs.Tape.{failed_to_draw};
 ghost use Rattle.mask_tape.specs.declared.tape.TapeError.TheVariants as TapeError;
 ghost use Rattle.mask_tasks.specs.Tasks.{longest_message};
-ghost use Rattle.mask_counter.specs.Batches.{stand};
+ghost use Rattle.mask_trace.specs.Drawing.{stand};
 ghost use Rattle.mask_ciphers.specs.Methods.{next_gates};
 ghost use Rattle.mask_ciphers.specs.Tasks.{method_of};
 ghost use Rattle.mask_plan.specs.Sessions.{batch_length, bit_place};

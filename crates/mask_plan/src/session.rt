@@ -2,9 +2,9 @@
 
 ghost use Rattle.std.specs.Prelude.{◌≡◌, ℕ, ◌+◌, ◌*◌, ◌<◌, ◌≤◌, true, false, [], length, slice_index, IfOk, OnOk, OnErr, Some, None, Err};
 ghost use Rattle.mask_io.specs.Outside.{faults_after};
-ghost use Rattle.mask_counter.specs.Batches.{stand};
 ghost use Rattle.mask_tasks.specs.Tasks.{key_bytes, longest_message};
 ghost use Rattle.mask_keys.specs.Lines.{line_length};
+ghost use Rattle.mask_trace.specs.Drawing.{stand};
 ghost use Rattle.mask_ciphers.specs.Tasks.{method_of, with_lines};
 ghost use Rattle.mask_ciphers.specs.Methods.{start_steps};
 ghost use Rattle.mask_plan.specs.Sessions.{Answers, Begins, batch_length, block_length, out_words, failed_to_draw, stop_of};

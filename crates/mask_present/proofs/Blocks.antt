@@ -1,4 +1,4 @@
--- A block xored, or passed through the S-boxes, value by value: what is made and what is left.
+-- A block passed through the S-boxes, one after another: what is made and what is left.
 use Rattle.std.proofs.Common.{◌≡◌, ℕ, zero, suc, ◌+◌, ◌-◌, ◌*◌, ◌<◌, ◌≤◌, List, [], ◌∷◌, ◌++◌, length, take, drop, get_or, set, refl, sym, ap, ◌∙◌, subst, arith}
 use Rattle.std.specs.List.{range_with_len}
 use Rattle.std.proofs.lemmas.List.{length-set, drop_more, length-append, length-take-le, append_assoc, drop-drop, drop_all, take_all, take_at, take_more_set, append-nil}
@@ -7,73 +7,11 @@ use Rattle.mask_circuit.specs.declared.gates.Gate.TheVariants.{Xor}
 use Rattle.mask_circuit.specs.Netlist.{Netlist, value_count}
 use Rattle.mask_parts.specs.Drafts.{with_gates, Grows, IsWithinLimits}
 use Rattle.mask_parts.specs.PresentSbox.{sbox_gates, sbox_results, with_sbox}
+use Rattle.mask_parts.specs.Rows.{xor_gates}
 use Rattle.mask_parts.proofs.Growing.{value_count-with_gates, with_gates-nil, with_gates-with_gates, Grows-refl, Grows-trans, Grows-with_gates}
 use Rattle.mask_present.proofs.Fitting.{length-with_stretch, length-sbox_results}
 use Rattle.mask_present.proofs.Tidying.{count-with_sbox}
-use Rattle.mask_present.specs.Rounds.{xor_gates, xored, sboxes, sboxes_results, with_stretch}
-
--- XORS
-
--- k of the XORs are made: the draft is c, and `sums` begins with their values
-pub record HasXored (before c : Netlist) (us vs sums : List ℕ) (k : ℕ) : Type 0 where
-  pub begun : Grows before c
-  pub count : value_count c ≡ value_count before + k
-  pub left : with_gates c (xor_gates (drop k us) (drop k vs)) ≡ xored before us vs
-  pub long : length sums ≡ 64
-  pub within : IsWithinLimits c
-  pub summed : take k sums ≡ range_with_len (value_count before) k
-
-pub HasXored-none : (before : Netlist) (us vs sums : List ℕ) → length sums ≡ 64 → IsWithinLimits before → HasXored before before us vs sums 0
-unfolding xored
-HasXored-none before us vs sums long within = record { within = within; begun = Grows-refl before; count = omega arith; left = refl; long = long; summed = refl }
-
--- one more at the end
-pub range-more : (a n : ℕ) → range_with_len a (n + 1) ≡ range_with_len a n ++ (a + n) ∷ []
-range-more a zero = let e : a + 0 ≡ a = omega arith in rw e refl
-range-more a (suc n) =
-    let e : suc n + 1 ≡ suc (n + 1) = omega arith in
-    let f : a + 1 + n ≡ a + suc n = omega arith in
-    rw (e, range-more (a + 1) n, f) refl
-
-xor_gates-drop : (us vs : List ℕ) (k : ℕ) → k < length us → k < length vs
-    → xor_gates (drop k us) (drop k vs) ≡ Xor (get_or us k 0) (get_or vs k 0) ∷ xor_gates (drop (k + 1) us) (drop (k + 1) vs)
-unfolding xor_gates
-xor_gates-drop us vs k one two = rw (drop_more us k 0 one, drop_more vs k 0 two) refl
-
-module _ (before c : Netlist) (us vs sums : List ℕ) (k : ℕ) (one : k < length us) (two : k < length vs) (has : HasXored before c us vs sums k) where
-  abbrev g : Gate
-  g = Xor (get_or us k 0) (get_or vs k 0)
-
-  -- the next XOR is part of the whole
-  pub left-xor : with_gates (with_gates c (g ∷ [])) (xor_gates (drop (k + 1) us) (drop (k + 1) vs)) ≡ xored before us vs
-  left-xor = with_gates-with_gates c (g ∷ []) (xor_gates (drop (k + 1) us) (drop (k + 1) vs)) ∙ ap (with_gates c) (sym (xor_gates-drop us vs k one two)) ∙ has.left
-
-  pub rest-xor : Grows (with_gates c (g ∷ [])) (xored before us vs)
-  rest-xor = subst (Grows (with_gates c (g ∷ []))) left-xor (Grows-with_gates (with_gates c (g ∷ [])) _)
-
-  pub HasXored-more : k < 64 → (d : Netlist) → d ≡ with_gates c (g ∷ []) → IsWithinLimits (with_gates c (g ∷ [])) → HasXored before d us vs (set sums k (value_count c)) (k + 1)
-  HasXored-more below d made within =
-      let long = has.long in
-      rw made (record {
-        begun = Grows-trans before c (with_gates c (g ∷ [])) has.begun (Grows-with_gates c (g ∷ []));
-        count = value_count-with_gates c (g ∷ []) ∙ (let count = has.count in omega arith);
-        left = left-xor;
-        within = within;
-        long = length-set sums k (value_count c) ∙ has.long;
-        summed = take_more_set sums k (value_count c) (omega arith)
-            ∙ rw (has.summed, has.count) (sym (range-more (value_count before) k));
-      })
-
-pub HasXored-all : (before c : Netlist) (us vs sums : List ℕ) → length us ≡ 64 → length vs ≡ 64 → (k : ℕ) → k ≡ 64 → HasXored before c us vs sums k
-    → (sums ≡ range_with_len (value_count before) 64) × (c ≡ xored before us vs) × IsWithinLimits (xored before us vs)
-unfolding xor_gates
-HasXored-all before c us vs sums one two k end has =
-    let none : with_gates c (xor_gates (drop k us) (drop k vs)) ≡ c =
-    rw (drop_all k us (omega arith)) (with_gates-nil c) in
-    let whole : c ≡ xored before us vs = sym none ∙ has.left in
-    (sym (take_all k sums (let long = has.long in omega arith)) ∙ has.summed ∙ ap (range_with_len (value_count before)) end, whole, subst IsWithinLimits whole has.within)
-
--- S-BOXES
+use Rattle.mask_present.specs.Rounds.{xored, sboxes, sboxes_results, with_stretch}
 
 -- g of the S-boxes are made: the draft is c, and `results` begins with their results
 pub record HasSubstituted (before c : Netlist) (us results : List ℕ) (g : ℕ) : Type 0 where

@@ -1,4 +1,4 @@
--- The named circuits are strong and compute PRESENT in counter mode.
+-- The draft before the fence: it is tidy where its gates are formed, and computes PRESENT in counter mode.
 use Rattle.std.proofs.Common.{◌≡◌, ℕ, zero, suc, ◌+◌, ◌<◌, ◌≤◌, Bool, false, List, [], ◌∷◌, ◌++◌, length, map, take, drop, All, Some, refl, sym, ap, ap₂, ◌∙◌, subst, arith, lit≤, bit_xor}
 use Rattle.std.specs.List.{range_with_len}
 use Rattle.std.proofs.lemmas.List.{length-map, drop_more}
@@ -16,47 +16,42 @@ use Rattle.mask_tasks.specs.declared.sizes.KeySize.TheVariants.{K80, K128}
 use Rattle.mask_parts.specs.CipherCircuits.{Size, size_of, IsCipherCircuit}
 use Rattle.mask_parts.specs.Drafts.{with_gates, bits_of, Grows, IsWithinLimits}
 use Rattle.mask_parts.specs.Fences.{with_fence}
-use Rattle.mask_parts.proofs.Concluding.{IsStrong-tidy_fence, IsCipherCircuit-strong}
+use Rattle.mask_parts.specs.Rows.{xor_gates}
+use Rattle.mask_parts.proofs.Concluding.{IsStrong-tidy_fence, IsCipherCircuit-strong, Grows-fence}
+use Rattle.mask_parts.proofs.Counting.{IsWithinLimits-sized}
 use Rattle.mask_parts.proofs.Fencing.{plain-with_fence}
 use Rattle.mask_parts.proofs.Growing.{Grows-trans, Grows-with_gates, Grows-with_outputs, value_count-with_gates, value_count-Grows}
-use Rattle.mask_parts.proofs.Solving.{Solves-all, values_from-keeps}
+use Rattle.mask_parts.proofs.Inputs.{bits-inputs, IsTidy-inputs, IsReady-alone, All-inputs, AreOf-inputs}
+use Rattle.mask_parts.proofs.Passing.{Formed, Formed-Grows, IsReady}
+use Rattle.mask_parts.proofs.Ranges.{All-range}
+use Rattle.mask_parts.proofs.Solving.{Solves-all, values_from-keeps, Solved, Solved-with_gates, Solved-Grows}
+use Rattle.mask_parts.proofs.WordShowing.{shown}
+use Rattle.mask_parts.proofs.XorRows.{Counts-xors, AllTake-xors}
 use Rattle.mask_present.specs.Present.{Register, register, encrypted, present}
 use Rattle.mask_present.specs.NamedPresent.{start, encrypted_message, named_of, named_present, size_present, present_of_bits}
-use Rattle.mask_present.specs.Rounds.{Stage, stage, xor_gates, xored, rounds}
-use Rattle.mask_present.proofs.Counting.{Counts-xor_gates, Adds-message, size-named_present}
+use Rattle.mask_present.specs.Rounds.{Stage, stage, xored, rounds}
+use Rattle.mask_present.proofs.Counting.{Adds-message, size-named_present}
 use Rattle.mask_present.proofs.Encrypting.{inputs-Grows, begun-round}
 use Rattle.mask_present.proofs.Knowing.{Known-rounds, Known-start}
 use Rattle.mask_present.proofs.Fitting.{IsShape, IsShape-register, Fits-rounds, Fits-start}
-use Rattle.mask_present.proofs.Holding.{All-range}
 use Rattle.mask_present.proofs.Lengthening.{Lengthens-rounds}
-use Rattle.mask_present.proofs.Showing.{Solved, Solved-with_gates, Solved-Grows, Shows, Shows-rounds, shown, shown-xor_gates}
-use Rattle.mask_present.proofs.Tidying.{Formed, Formed-Grows, IsReady, IsReady-later, Steady, Steadies-rounds, KeepsWith-layer, AllTake-xor_gates}
+use Rattle.mask_present.proofs.Showing.{Shows, Shows-rounds, shown-xor_gates}
+use Rattle.mask_present.proofs.Tidying.{IsReady-later, Steady, Steadies-rounds, KeepsWith-layer}
 
 -- THE START
 
-no_gate : (n p : ℕ) (g : Gate) → gate_at (only_inputs n) p ≡ Some g → ⊥
-no_gate n p g is = let within = gate_at_within (only_inputs n) p g is in omega arith
-
-ready-input : (n u : ℕ) → u < n → IsReady (only_inputs n) u
-ready-input n u low = record { below = omega arith; free = λ p v is. no_gate n p _ is }
-
-Steady-start : (r : Register) → Steady (start r)
+pub Steady-start : (r : Register) → Steady (start r)
 unfolding start
-Steady-start r = record {
-  tidy = record {
-    refreshed = λ p u v is. absurd (no_gate (r.width + 128) p _ is);
-    apart = λ p u v is. absurd (no_gate (r.width + 128) p _ is);
-    alone = λ p u v q is. absurd (no_gate (r.width + 128) p _ is);
-  };
-  ready = record {
-    key = All-range (IsReady (only_inputs (r.width + 128))) 0 r.width (λ u low high. ready-input (r.width + 128) u (omega arith));
-    block = All-range (IsReady (only_inputs (r.width + 128))) r.width 64 (λ u low high. ready-input (r.width + 128) u (omega arith));
-  };
-}
+Steady-start r =
+    let n : ℕ = r.width + 128 in
+    record {
+      tidy = IsTidy-inputs n;
+      ready = record { key = All-inputs n Unit 0 r.width (omega arith); block = All-inputs n Unit r.width 64 (omega arith) };
+    }
 
-ready-start : (r : Register) (u : ℕ) → u < r.width + 128 → IsReady (start r).draft u
+pub ready-start : (r : Register) (u : ℕ) → u < r.width + 128 → IsReady Unit (start r).draft u
 unfolding start
-ready-start r u low = ready-input (r.width + 128) u low
+ready-start r u low = IsReady-alone (r.width + 128) Unit u low
 
 -- a stage of the inputs is the start
 pub stage-start : (r : Register) (b : Netlist) (key counter : List ℕ) → b ≡ only_inputs (r.width + 128) → key ≡ range_with_len 0 r.width → counter ≡ range_with_len r.width 64
@@ -67,18 +62,7 @@ stage-start r b key counter draft key_is counter_is = rw (draft, key_is, counter
 -- inputs in a row are values
 pub known-inputs : (r : Register) (b : Netlist) (us : List ℕ) (a k : ℕ) → b ≡ only_inputs (r.width + 128) → us ≡ range_with_len a k → a + k ≤ r.width + 128
     → All (λ u. u < value_count b) us
-known-inputs r b us a k draft is within = rw (draft, is) (All-range (λ u. u < r.width + 128 + 0) a k (λ u low high. omega arith))
-
--- STRENGTH
-
--- INPUTS
-
--- the bits of inputs in a row
-bits-inputs : (c : Netlist) (x : List Bool) (a k : ℕ) → a + k ≤ length x → map (value_at (plain_values c x)) (range_with_len a k) ≡ take k (drop a x)
-bits-inputs c x a zero within = refl
-bits-inputs c x a (suc k) within =
-    rw (drop_more x a false (omega arith))
-    (ap₂ ◌∷◌ (values_from-keeps c.gates x a (omega arith)) (bits-inputs c x (a + 1) k (omega arith)))
+known-inputs r b us a k draft is within = rw (draft, is) (AreOf-inputs (r.width + 128) a k within)
 
 -- the values before the fence
 module _ (r : Register) (shape : IsShape r) where
@@ -88,7 +72,7 @@ module _ (r : Register) (shape : IsShape r) where
   abbrev messages : List ℕ
   messages = range_with_len (r.width + 64) 64
 
-  abbrev sums : List ℕ
+  abbrev pub sums : List ℕ
   sums = range_with_len (value_count end.draft) 64
 
   pub Grows-end : Grows end.draft (encrypted_message r)
@@ -96,8 +80,8 @@ module _ (r : Register) (shape : IsShape r) where
   Grows-end = Grows-with_gates end.draft (xor_gates end.block messages)
 
   pub Grows-named : Grows (encrypted_message r) (named_of r)
-  unfolding named_of with_fence
-  Grows-named = Grows-trans _ _ _ (Grows-with_gates (encrypted_message r) _) (Grows-with_outputs _ _)
+  unfolding named_of
+  Grows-named = Grows-fence (encrypted_message r) sums
 
   end_block : length end.block ≡ 64
   end_block = (Fits-rounds r (start r) shape (Fits-start r)).block
@@ -106,7 +90,7 @@ module _ (r : Register) (shape : IsShape r) where
   unfolding encrypted_message xored
   count-message =
       value_count-with_gates end.draft (xor_gates end.block messages)
-      ∙ ap (λ n. value_count end.draft + n) ((Counts-xor_gates end.block messages (end_block ∙ sym (length-range_with_len (r.width + 64) 64))).gates ∙ end_block)
+      ∙ ap (λ n. value_count end.draft + n) ((Counts-xors end.block messages (end_block ∙ sym (length-range_with_len (r.width + 64) 64))).gates ∙ end_block)
 
   pub begun-end : Grows (start r).draft end.draft
   begun-end = Grows-trans _ _ _ (begun-round r 31 (start r)) (Lengthens-rounds r (start r))
@@ -126,19 +110,19 @@ module _ (r : Register) (shape : IsShape r) where
   pub no_outputs : (encrypted_message r).outputs ≡ []
   no_outputs = (Adds-message r shape).outputs ∙ (unfold start in refl)
 
-  tidy-message : Formed (encrypted_message r) → IsTidy (encrypted_message r)
+  pub tidy-message : Formed (encrypted_message r) → IsTidy (encrypted_message r)
   unfolding encrypted_message xored
   tidy-message formed =
       let before : Formed end.draft = Formed-Grows end.draft (with_gates end.draft (xor_gates end.block messages)) Grows-end formed in
       let keeps = Steadies-rounds r (start r) shape (Fits-start r) before (Steady-start r) in
-      let inputs : All (IsReady end.draft) messages =
-      All-range (IsReady end.draft) (r.width + 64) 64 (λ u low high. IsReady-later (start r).draft end.draft [] keeps.more keeps.kept u (ready-start r u (omega arith))) in
-      (KeepsWith-layer end.draft (xor_gates end.block messages) formed (AllTake-xor_gates end.draft end.block messages keeps.ready.block inputs) keeps.kept.tidy).tidy.tidy
+      let inputs : All (IsReady Unit end.draft) messages =
+      All-range (IsReady Unit end.draft) (r.width + 64) 64 (λ u low high. IsReady-later (start r).draft end.draft [] keeps.more keeps.kept u (ready-start r u (omega arith))) in
+      (KeepsWith-layer end.draft (xor_gates end.block messages) formed (AllTake-xors Unit end.draft tt end.block messages keeps.ready.block inputs) keeps.kept.tidy).tidy.tidy
 
-  inputs-message : (encrypted_message r).inputs ≡ r.width + 128
+  pub inputs-message : (encrypted_message r).inputs ≡ r.width + 128
   inputs-message = (Adds-message r shape).inputs ∙ (unfold start in refl)
 
-  bits_of_sums : (x : List Bool) → length x ≡ r.width + 128 → Formed (encrypted_message r)
+  pub bits_of_sums : (x : List Bool) → length x ≡ r.width + 128 → Formed (encrypted_message r)
       → number (bits_of (encrypted_message r) x sums)
       ≡ bit_xor (encrypted r (number (take r.width x)) (number (take 64 (drop r.width x)))) (number (take 64 (drop (r.width + 64) x)))
   unfolding encrypted_message xored bits_of
@@ -158,59 +142,9 @@ module _ (r : Register) (shape : IsShape r) where
       (Solved-with_gates vs end.draft (xor_gates end.block messages) solved).1
       ∙ rw (block, message) refl
 
-  pub plain-named_of : (x : List Bool) → length x ≡ r.width + 128 → Formed (named_of r)
-      → plain (named_of r) x
-      ≡ lowest 64 (bit_xor (encrypted r (number (take r.width x)) (number (take 64 (drop r.width x)))) (number (take 64 (drop (r.width + 64) x))))
-  unfolding named_of
-  plain-named_of x long formed =
-      let m : Netlist = encrypted_message r in
-      let before : Formed m = Formed-Grows m (named_of r) Grows-named formed in
-      let bits : List Bool = bits_of m x sums in
-      let bits_long : length bits ≡ 64 = unfold bits_of in length-map sums (value_at (plain_values m x)) ∙ length-range_with_len (value_count end.draft) 64 in
-      let none : plain m x ≡ [] = ap (map (value_at (plain_values m x))) no_outputs in
-      plain-with_fence m sums before known-sums x (long ∙ sym inputs-message) (rw no_outputs (All-nil (λ u. u < value_count m)))
-      ∙ ap (λ (bs : List Bool). bs ++ bits) none
-      ∙ sym (lowest-of bits _ 64 (sym (bits_of_sums x long before)) bits_long)
-
-  pub inputs-named_of : (named_of r).inputs ≡ r.width + 128
-  inputs-named_of = inputs-Grows (encrypted_message r) (named_of r) Grows-named ∙ inputs-message
-
-  pub IsStrong-named_of : Formed (named_of r) → IsStrong (named_of r)
-  unfolding named_of
-  IsStrong-named_of formed =
-      let before : Formed (encrypted_message r) = Formed-Grows (encrypted_message r) (named_of r) Grows-named formed in
-      IsStrong-tidy_fence (encrypted_message r) sums before known-sums no_outputs (tidy-message before)
-
 -- BOTH SIZES
-
-IsStrong-named_present : (size : KeySize) → Formed (named_present size) → IsStrong (named_present size)
-unfolding named_present
-IsStrong-named_present size formed = IsStrong-named_of (register size) (IsShape-register size) formed
-
--- the named circuit, as a circuit that was made, is strong
-pub IsStrong-made : (size : KeySize) (c : Netlist) → c ≡ named_present size → IsCircuit c → IsStrong c
-IsStrong-made size c same circuit = subst IsStrong (sym same) (IsStrong-named_present size (subst Formed same circuit.formed.gates))
-
--- and meets the contract of a cipher's circuit
-pub IsCipherCircuit-made : (size : KeySize) (c : Netlist) → c ≡ named_present size → IsCircuit c
-    → IsCipherCircuit (named_present size) (size_present size) (present_of_bits size) c
-unfolding named_present present_of_bits present
-IsCipherCircuit-made size c same circuit =
-    let r = register size in
-    let shape = IsShape-register size in
-    IsCipherCircuit-strong (named_of r) (size_present size) (present_of_bits size) c same circuit
-    (ap size_of same ∙ size-named_present size) (IsStrong-made size c same circuit)
-    (λ x long. ap (λ (d : Netlist). plain d x) same
-    ∙ plain-named_of r shape x (long ∙ ap (λ (d : Netlist). d.inputs) same ∙ inputs-named_of r shape) (subst Formed same circuit.formed.gates))
 
 -- it's within the limits of a circuit
 pub IsWithinLimits-named : (size : KeySize) → IsWithinLimits (named_present size)
-unfolding size_of
-IsWithinLimits-named K80 = record {
-  values = rw (ap (λ (s : Size). s.values) (size-named_present K80)) (lit≤ tt);
-  outputs = rw (ap (λ (s : Size). s.outputs) (size-named_present K80)) (lit≤ tt);
-}
-IsWithinLimits-named K128 = record {
-  values = rw (ap (λ (s : Size). s.values) (size-named_present K128)) (lit≤ tt);
-  outputs = rw (ap (λ (s : Size). s.outputs) (size-named_present K128)) (lit≤ tt);
-}
+IsWithinLimits-named K80 = IsWithinLimits-sized (named_present K80) (size_present K80) (size-named_present K80) (lit≤ tt) (lit≤ tt)
+IsWithinLimits-named K128 = IsWithinLimits-sized (named_present K128) (size_present K128) (size-named_present K128) (lit≤ tt) (lit≤ tt)

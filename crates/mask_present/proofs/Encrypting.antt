@@ -8,14 +8,15 @@ use Rattle.mask_tasks.specs.declared.sizes.KeySize.{KeySize}
 use Rattle.mask_parts.specs.Drafts.{with_gates, with_outputs, bits_of, Grows, IsWithinLimits}
 use Rattle.mask_parts.specs.Tidiness.{IsFree, KeepsTidy}
 use Rattle.mask_parts.proofs.Growing.{Grows-trans}
-use Rattle.mask_parts.proofs.Solving.{Solves-all, bits_of-with_gates, bits_of-with_outputs}
+use Rattle.mask_parts.proofs.Passing.{Formed}
+use Rattle.mask_parts.proofs.Solving.{Solves-all, bits_of-with_gates, bits_of-with_outputs, Solved}
 use Rattle.mask_present.specs.Present.{Register, register, present}
 use Rattle.mask_present.specs.Rounds.{Stage, stage, key_added, block_substituted, block_moved, key_rotated, key_replaced, key_counted, key_updated, block_round, stage_after, rounds}
 use Rattle.mask_present.proofs.Fitting.{IsShape-register, Fits, Fits-stage_after}
 use Rattle.mask_present.proofs.Knowing.{Below, Known, Known-block_round, Known-stage_after}
 use Rattle.mask_present.proofs.Lengthening.{Lengthens-block_round, Lengthens-key_updated, Lengthens-more, Lengthens-rounds}
-use Rattle.mask_present.proofs.Showing.{Solved, Shows, Shows-rounds}
-use Rattle.mask_present.proofs.Tidying.{Formed, Steady, Steadies-rounds}
+use Rattle.mask_present.proofs.Showing.{Shows, Shows-rounds}
+use Rattle.mask_present.proofs.Tidying.{Steady, Steadies-rounds}
 
 -- STAGES
 
@@ -143,14 +144,14 @@ module _ (size : KeySize) (b after : Netlist) (key block result : List ℕ) (lon
       let steady : Steady s = record {
         tidy = tidy;
         ready = record {
-          key = λ k z inside. record { below = key_known k z inside; free = key_free k z inside };
-          block = λ k z inside. record { below = block_known k z inside; free = block_free k z inside };
+          key = λ k z inside. record { below = key_known k z inside; free = λ t. key_free k z inside };
+          block = λ k z inside. record { below = block_known k z inside; free = λ t. block_free k z inside };
         };
       } in
       let keeps = Steadies-rounds r s (IsShape-register size) (Fits-stage r b key block long block_long) (rw made at formed) steady in
       rw (made, result_is) (record {
         tidy = keeps.kept.tidy;
-        results_free = λ k z inside. (keeps.ready.block k z inside).free;
+        results_free = λ k z inside. (keeps.ready.block k z inside).free tt;
         still_free = keeps.kept.still_free;
       })
 

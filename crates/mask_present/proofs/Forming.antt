@@ -1,35 +1,31 @@
--- The gates of the rounds take earlier values, so the named circuits are circuits.
+-- The gates of the rounds take earlier values, so the named circuits are circuits: strong, of their size, and PRESENT.
 use Rattle.std.proofs.Common.{◌≡◌, ℕ, zero, suc, ◌+◌, ◌-◌, ◌*◌, ◌<◌, ◌≤◌, Bool, true, false, List, [], ◌∷◌, length, take, drop, All, refl, ap, sym, ◌∙◌, subst, arith, fold}
 use Rattle.std.specs.List.{range_with_len}
 use Rattle.std.proofs.lemmas.List.{length-take-le, length-drop}
+use Rattle.std.proofs.lemmas.List.FromFn.{length-range_with_len}
 use Rattle.std.proofs.lemmas.List.Elements.{All-head, All-tail, All-take, All-drop}
 use Rattle.mask_bits.specs.Reading.{lowest}
-use Rattle.mask_circuit.specs.Netlist.{AreGates, IsWellFormed, IsCircuit, value_count}
+use Rattle.mask_circuit.specs.Netlist.{Netlist, AreGates, IsWellFormed, IsCircuit, value_count}
+use Rattle.mask_circuit.specs.Acceptance.{IsStrong}
 use Rattle.mask_tasks.specs.declared.sizes.KeySize.{KeySize}
 use Rattle.mask_parts.specs.CipherCircuits.{IsCipherCircuit}
 use Rattle.mask_parts.specs.PresentSbox.{sbox_gates, with_sbox}
+use Rattle.mask_parts.specs.Rows.{xor_gates}
+use Rattle.mask_parts.proofs.Concluding.{IsDone, IsStrong-done, IsCipherCircuit-done, bits_of-lowest}
 use Rattle.mask_parts.proofs.Fencing.{IsWellFormed-fence}
 use Rattle.mask_parts.proofs.Growing.{AreGates-append, AreGates-with_gates}
+use Rattle.mask_parts.proofs.Passing.{Formed}
 use Rattle.mask_parts.proofs.Substituting.{length-sbox_gates, AreGates-sbox}
-use Rattle.mask_present.specs.Present.{Register, register}
+use Rattle.mask_parts.proofs.XorRows.{AreGates-xors}
+use Rattle.mask_present.specs.Present.{Register, register, present}
 use Rattle.mask_present.specs.NamedPresent.{start, encrypted_message, named_of, named_present, size_present, present_of_bits}
-use Rattle.mask_present.specs.Rounds.{Stage, xor_gates, xored, sboxes, not_gates, counter_values, key_added, block_substituted, block_moved, key_rotated, key_replaced, key_counted, key_updated, block_round, stage_after, rounds}
-use Rattle.mask_present.proofs.Concluding.{known-end, known-messages, known-sums, no_outputs, IsCipherCircuit-made, IsWithinLimits-named}
+use Rattle.mask_present.specs.Rounds.{Stage, xored, sboxes, not_gates, counter_values, key_added, block_substituted, block_moved, key_rotated, key_replaced, key_counted, key_updated, block_round, stage_after, rounds}
+use Rattle.mask_present.proofs.Concluding.{sums, known-end, known-messages, known-sums, no_outputs, tidy-message, inputs-message, bits_of_sums, IsWithinLimits-named}
+use Rattle.mask_present.proofs.Counting.{size-named_present}
 use Rattle.mask_present.proofs.Fitting.{IsShape, IsShape-register, AllWithin, Fits, Fits-start, Fits-key_added, Fits-block_round, Fits-key_rotated, Fits-key_replaced, Fits-stage_after}
 use Rattle.mask_present.proofs.Knowing.{Known, Known-start, Known-key_added, Known-block_round, Known-key_rotated, Known-key_replaced, Known-nibbles, Known-stage_after}
-use Rattle.mask_present.proofs.Tidying.{Formed}
 
 -- GATES ON VALUES BELOW n, the first of which makes value m
-
-AreGates-xor_gates : (n m : ℕ) (us vs : List ℕ) → n ≤ m → All (λ u. u < n) us → All (λ u. u < n) vs → AreGates m (xor_gates us vs)
-unfolding xor_gates
-AreGates-xor_gates n m [] vs le one two = tt
-AreGates-xor_gates n m (u ∷ us) [] le one two = tt
-AreGates-xor_gates n m (u ∷ us) (v ∷ vs) le one two =
-    let left = All-head (λ (w : ℕ). w < n) u us one in let right = All-head (λ (w : ℕ). w < n) v vs two in (
-      ((let up : u < m = omega arith in up), (let up : v < m = omega arith in up)),
-      AreGates-xor_gates n (suc m) us vs (omega arith) (All-tail (λ (w : ℕ). w < n) u us one) (All-tail (λ (w : ℕ). w < n) v vs two),
-    )
 
 AreGates-not_gates : (n m : ℕ) (bs : List Bool) (us : List ℕ) → n ≤ m → All (λ u. u < n) us → AreGates m (not_gates bs us)
 unfolding not_gates
@@ -54,16 +50,16 @@ AreGates-sboxes (suc k) n m us le long one =
 -- STAGES
 
 -- a stage with a formed draft whose values it knows
-record Sound (s : Stage) : Type 0 where
-  formed : Formed s.draft
-  known : Known s
+pub record Sound (s : Stage) : Type 0 where
+  pub formed : Formed s.draft
+  pub known : Known s
 
 Formed-key_added : (r : Register) (s : Stage) → Sound s → Formed (key_added r s).draft
 unfolding key_added xored
 Formed-key_added r s sound =
     let n = value_count s.draft in
     AreGates-with_gates s.draft (xor_gates s.block (drop (r.width - 64) s.key)) sound.formed
-    (AreGates-xor_gates n n s.block _ (omega arith) sound.known.values.block (All-drop (λ (w : ℕ). w < n) (r.width - 64) s.key sound.known.values.key))
+    (AreGates-xors n n s.block _ (omega arith) sound.known.values.block (All-drop (λ (w : ℕ). w < n) (r.width - 64) s.key sound.known.values.key))
 
 Formed-block_substituted : (r : Register) (s : Stage) → Fits r s → Sound s → Formed (block_substituted s).draft
 unfolding block_substituted
@@ -126,7 +122,7 @@ Formed-stage_after r (suc i) s shape fits sound =
       known = Known-block_round r t shape fits_t known;
     })
 
-Formed-rounds : (r : Register) (s : Stage) → IsShape r → Fits r s → Sound s → Formed (rounds r s).draft
+pub Formed-rounds : (r : Register) (s : Stage) → IsShape r → Fits r s → Sound s → Formed (rounds r s).draft
 unfolding rounds
 Formed-rounds r s shape fits sound =
     Formed-key_added r (stage_after r 31 s) (record {
@@ -146,21 +142,25 @@ Formed-message r shape =
     let n = value_count end.draft in
     AreGates-with_gates end.draft (xor_gates end.block (range_with_len (r.width + 64) 64))
     (Formed-rounds r (start r) shape (Fits-start r) (Sound-start r shape))
-    (AreGates-xor_gates n n end.block _ (omega arith) (known-end r shape) (known-messages r shape))
+    (AreGates-xors n n end.block _ (omega arith) (known-end r shape) (known-messages r shape))
 
-IsWellFormed-named_of : (r : Register) → IsShape r → IsWellFormed (named_of r)
-unfolding named_of
-IsWellFormed-named_of r shape = IsWellFormed-fence (encrypted_message r) _ (Formed-message r shape) (known-sums r shape) (no_outputs r shape)
-
-IsCircuit-named_present : (size : KeySize) → IsCircuit (named_present size)
-IsCircuit-named_present size =
-    let limits = IsWithinLimits-named size in
+-- behind a fence it's the circuit
+done : (r : Register) (shape : IsShape r) → IsDone Unit (encrypted_message r) (sums r shape)
+done r shape =
+    let formed = Formed-message r shape in
     record {
-      formed = unfold named_present in IsWellFormed-named_of (register size) (IsShape-register size);
-      few_values = limits.values;
-      few_outputs = limits.outputs;
+      sound = record { formed = formed; tidy = λ t. tidy-message r shape formed };
+      none = no_outputs r shape;
+      known = known-sums r shape;
     }
 
--- so the named circuits themselves meet their contract
+-- so the named circuits meet the contract of a cipher's circuit
 pub IsCipherCircuit-named_present : (size : KeySize) → IsCipherCircuit (named_present size) (size_present size) (present_of_bits size) (named_present size)
-IsCipherCircuit-named_present size = IsCipherCircuit-made size (named_present size) refl (IsCircuit-named_present size)
+unfolding named_present named_of present_of_bits present
+IsCipherCircuit-named_present size =
+    let r = register size in
+    let shape = IsShape-register size in
+    let m : Netlist = encrypted_message r in
+    let us : List ℕ = sums r shape in
+    IsCipherCircuit-done m us (done r shape) (size_present size) (present_of_bits size) (size-named_present size) (IsWithinLimits-named size)
+    (λ x long. bits_of-lowest m x us 64 _ (length-range_with_len (value_count (rounds r (start r)).draft) 64) (bits_of_sums r shape x (long ∙ inputs-message r shape) (Formed-message r shape)))

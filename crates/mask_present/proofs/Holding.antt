@@ -5,6 +5,7 @@ use Rattle.std.proofs.lemmas.List.Elements.{All-nil, All-cons, All-head, All-tai
 use Rattle.mask_bits.specs.Reading.{lowest}
 use Rattle.mask_circuit.specs.Netlist.{value_count}
 use Rattle.mask_parts.specs.PresentSbox.{sbox_results}
+use Rattle.mask_parts.proofs.Ranges.{All-range}
 use Rattle.mask_present.specs.Present.{Register}
 use Rattle.mask_present.specs.Rounds.{Stage, sboxes_results, source, moved, with_stretch, not_gates, not_results, counter_values, key_added, block_substituted, block_moved, key_rotated, key_replaced, key_counted}
 use Rattle.mask_present.proofs.Fitting.{Fits}
@@ -13,11 +14,6 @@ use Rattle.mask_present.proofs.Permuting.{source-lt}
 pub record Holds (P : ℕ → Type 0) (s : Stage) : Type 0 where
   pub key : All P s.key
   pub block : All P s.block
-
-pub All-range : (P : ℕ → Type 0) (n k : ℕ) → ((u : ℕ) → n ≤ u → u < n + k → P u) → All P (range_with_len n k)
-All-range P n zero new = All-nil P
-All-range P n (suc k) new =
-    All-cons P n (range_with_len (n + 1) k) (new n (omega arith) (omega arith)) (All-range P (n + 1) k (λ u low high. new u (omega arith) (omega arith)))
 
 pub All-sbox_results : (P : ℕ → Type 0) (n : ℕ) → P (n + 16) → P (n + 17) → P (n + 21) → P (n + 25) → All P (sbox_results n)
 unfolding sbox_results

@@ -4,13 +4,14 @@ use Rattle.mask_circuit.specs.Netlist.{Netlist, value_count}
 use Rattle.mask_parts.specs.Drafts.{Grows}
 use Rattle.mask_parts.specs.PresentSbox.{sbox_results}
 use Rattle.mask_parts.proofs.Growing.{value_count-Grows, value_count-with_gates}
+use Rattle.mask_parts.proofs.Ranges.{All-range}
 use Rattle.mask_bits.specs.Reading.{lowest}
 use Rattle.mask_present.specs.Present.{Register}
 use Rattle.mask_present.specs.NamedPresent.{start}
 use Rattle.mask_present.specs.Rounds.{Stage, not_gates, counter_values, key_added, block_substituted, block_moved, key_rotated, key_replaced, key_counted, key_updated, block_round, stage_after, rounds}
 use Rattle.mask_present.proofs.Counting.{Adds-key_added, Adds-block_substituted, Adds-key_replaced}
 use Rattle.mask_present.proofs.Fitting.{IsShape, Fits, Fits-key_added, Fits-block_substituted, Fits-stage_after}
-use Rattle.mask_present.proofs.Holding.{Holds, All-range, All-sbox_results, All-sboxes_results, Holds-key_added, Holds-block_substituted, Holds-block_moved, Holds-key_rotated, Holds-key_replaced, Holds-key_counted}
+use Rattle.mask_present.proofs.Holding.{Holds, All-sbox_results, All-sboxes_results, Holds-key_added, Holds-block_substituted, Holds-block_moved, Holds-key_rotated, Holds-key_replaced, Holds-key_counted}
 use Rattle.mask_present.proofs.Lengthening.{Lengthens-key_added, Lengthens-block_substituted, Lengthens-key_replaced, Lengthens-key_counted}
 
 -- a value of the draft

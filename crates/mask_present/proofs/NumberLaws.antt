@@ -1,57 +1,13 @@
--- The number of a list of bits: of parts of it, of an XOR, of a rotation.
+-- The number of a list of bits: of a rotation, and of a list with a stretch replaced.
 use Rattle.std.proofs.Common.{◌≡◌, ℕ, ◌+◌, ◌*◌, ◌/◌, ◌%◌, ◌^◌, ◌<◌, ◌≤◌, Bool, true, false, List, [], ◌∷◌, ◌++◌, length, take, drop, refl, sym, ap, ◌∙◌, arith, lit<, if◌then◌else◌, bit_xor}
 use Rattle.std.proofs.lemmas.Nat.{pow_pos, div-mul-add, mod-mul-add, xor_block, pow-add}
 use Rattle.std.specs.Int.Bits.{xor_zero_r}
 use Rattle.std.proofs.lemmas.List.{length-take-le, length-drop, take-append-drop, drop-drop}
 use Rattle.mask_circuit.specs.Value.{xor}
 use Rattle.mask_bits.specs.Reading.{number}
+use Rattle.mask_parts.proofs.NumberParts.{number-split, number_take-lt, number-drop, number-take}
 use Rattle.mask_present.specs.Rounds.{with_stretch}
 use Rattle.mask_bits.proofs.Numbers.{number-append, number-lt}
-
--- the number of a list is that of its first n bits and that of the others
-pub number-split : (n : ℕ) (bits : List Bool) → n ≤ length bits → number bits ≡ number (drop n bits) * 2 ^ n + number (take n bits)
-number-split n bits within =
-    let parts = number-append (take n bits) (drop n bits) in
-    let long : length (take n bits) ≡ n = length-take-le n bits within in
-    let whole : number bits ≡ number (take n bits ++ drop n bits) = ap number (sym (take-append-drop n bits)) in
-    whole ∙ parts ∙ rw long (omega arith)
-
-number_take-lt : (n : ℕ) (bits : List Bool) → n ≤ length bits → number (take n bits) < 2 ^ n
-number_take-lt n bits within = rw (length-take-le n bits within) at (number-lt (take n bits))
-
-pub number-drop : (n : ℕ) (bits : List Bool) → n ≤ length bits → number (drop n bits) ≡ number bits / 2 ^ n
-number-drop n bits within =
-    rw (number-split n bits within) (sym (div-mul-add (number (drop n bits)) (2 ^ n) (number (take n bits)) (number_take-lt n bits within)))
-
-pub number-take : (n : ℕ) (bits : List Bool) → n ≤ length bits → number (take n bits) ≡ number bits % 2 ^ n
-number-take n bits within =
-    rw (number-split n bits within) (sym (mod-mul-add (number (drop n bits)) (2 ^ n) (number (take n bits)) (number_take-lt n bits within)))
-
--- the XOR of bits, place by place, as far as both lists go
-abbrev pub xor_bits : List Bool → List Bool → List Bool
-xor_bits [] ys = []
-xor_bits (x ∷ xs) [] = []
-xor_bits (x ∷ xs) (y ∷ ys) = xor x y ∷ xor_bits xs ys
-
--- one digit more at the low end
-xor-digit : (m n r s : ℕ) → r < 2 → s < 2 → bit_xor (r + 2 * m) (s + 2 * n) ≡ bit_xor r s + 2 * bit_xor m n
-xor-digit m n r s r_small s_small =
-    let left : r + 2 * m ≡ m * 2 ^ 1 + r = omega arith in
-    let right : s + 2 * n ≡ n * 2 ^ 1 + s = omega arith in
-    rw (left, right, xor_block 1 m n r s r_small s_small) (omega arith)
-
--- one bit more
-xor-low : (x y : Bool) (m n : ℕ) → bit_xor ((if x then 1 else 0) + 2 * m) ((if y then 1 else 0) + 2 * n) ≡ (if xor x y then 1 else 0) + 2 * bit_xor m n
-xor-low true true m n = xor-digit m n 1 1 (lit< tt) (lit< tt)
-xor-low true false m n = xor-digit m n 1 0 (lit< tt) (lit< tt)
-xor-low false true m n = xor-digit m n 0 1 (lit< tt) (lit< tt)
-xor-low false false m n = xor-digit m n 0 0 (lit< tt) (lit< tt)
-
-pub number-xor_bits : (xs ys : List Bool) → length xs ≡ length ys → number (xor_bits xs ys) ≡ bit_xor (number xs) (number ys)
-number-xor_bits [] [] same = refl
-number-xor_bits [] (y ∷ ys) same = absurd (omega arith)
-number-xor_bits (x ∷ xs) [] same = absurd (omega arith)
-number-xor_bits (x ∷ xs) (y ∷ ys) same = rw (number-xor_bits xs ys (omega arith)) (sym (xor-low x y (number xs) (number ys)))
 
 -- the highest b bits before the lowest a
 pub number-rotated : (a b : ℕ) (bits : List Bool) → length bits ≡ a + b

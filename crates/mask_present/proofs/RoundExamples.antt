@@ -5,8 +5,9 @@ use Rattle.mask_circuit.specs.declared.gates.Gate.TheVariants.{Xor, Not}
 use Rattle.mask_circuit.specs.Netlist.{only_inputs}
 use Rattle.mask_tasks.specs.declared.sizes.KeySize.TheVariants.{K80, K128}
 use Rattle.mask_parts.specs.Drafts.{with_gates}
+use Rattle.mask_parts.specs.Rows.{xor_gates}
 use Rattle.mask_present.specs.Present.{register}
-use Rattle.mask_present.specs.Rounds.{stage, xor_gates, xored, key_added, moved, key_rotated, not_gates, key_counted}
+use Rattle.mask_present.specs.Rounds.{stage, xored, key_added, moved, key_rotated, not_gates, key_counted}
 
 -- value k in a list
 abbrev at : List ℕ → ℕ → ℕ

@@ -3,53 +3,35 @@ use Rattle.std.proofs.Common.{◌≡◌, ℕ, zero, suc, ◌+◌, ◌-◌, ◌*�
 use Rattle.std.specs.List.{range_with_len}
 use Rattle.std.proofs.Math.Nat.{mod-eq_of_lt}
 use Rattle.std.proofs.lemmas.List.{length-map, length-drop, length-take-le, map-append, take-map, drop-map, get_or-map}
+use Rattle.std.proofs.lemmas.Simd.{map-map}
 use Rattle.mask_bits.specs.Reading.{number, lowest}
 use Rattle.mask_bits.proofs.Numbers.{number-append, number-lowest, length-lowest}
 use Rattle.mask_circuit.specs.declared.gates.Gate.{Gate}
 use Rattle.mask_circuit.specs.Netlist.{Netlist, value_count}
 use Rattle.mask_circuit.specs.Value.{xor, value_at}
+use Rattle.mask_laws.proofs.Bits.{xor-false}
+use Rattle.mask_laws.proofs.Members.{map-same_in}
 use Rattle.mask_parts.specs.Drafts.{with_gates, with_outputs, Grows}
 use Rattle.mask_parts.specs.PresentSbox.{sbox, sbox_gates, sbox_results, with_sbox}
+use Rattle.mask_parts.specs.Rows.{xor_gates, xor_bits}
+use Rattle.mask_parts.proofs.NumberParts.{number-xor_bits, number-take, number-drop}
 use Rattle.mask_parts.proofs.Substituting.{length-sbox_gates, sbox-solved}
-use Rattle.mask_parts.proofs.Solving.{Solves, Solves-left, Solves-right}
+use Rattle.mask_parts.proofs.Solving.{Solves, Solves-left, Solves-right, Solved, Solved-with_gates, Solved-Grows}
+use Rattle.mask_parts.proofs.WordShowing.{shown}
+use Rattle.mask_parts.proofs.XorRows.{bits-xors}
 use Rattle.mask_present.specs.Present.{Register, substituted, permuted, round_key, rotated, replaced, updated, register_after, block_after, encrypted}
-use Rattle.mask_present.specs.Rounds.{Stage, xor_gates, xored, sboxes, sboxes_results, source, moved, with_stretch, not_gates, not_results, counter_values, key_added, block_substituted, block_moved, key_rotated, key_replaced, key_counted, key_updated, block_round, stage_after, rounds}
+use Rattle.mask_present.specs.Rounds.{Stage, xored, sboxes, sboxes_results, source, moved, with_stretch, not_gates, not_results, counter_values, key_added, block_substituted, block_moved, key_rotated, key_replaced, key_counted, key_updated, block_round, stage_after, rounds}
 use Rattle.mask_present.proofs.Fitting.{IsShape, AllWithin, Fits, length-sbox_results, length-not_results, length-counter_values, Fits-key_added, Fits-block_substituted, Fits-block_moved, Fits-key_rotated, Fits-key_replaced, Fits-key_counted}
 use Rattle.mask_present.proofs.Lengthening.{Lengthens-block_substituted, Lengthens-nibbles, Lengthens-key_counted, Lengthens-key_updated, Lengthens-block_round, Lengthens-rounds}
-use Rattle.mask_present.proofs.NumberLaws.{xor_bits, number-xor_bits, number-take, number-drop, number-rotated, number-stretch, number-xor_stretch}
+use Rattle.mask_present.proofs.NumberLaws.{number-rotated, number-stretch, number-xor_stretch}
 use Rattle.mask_present.proofs.Permuting.{source-lt, permuted-number}
 
--- the bits vs solve all gates of the draft
-abbrev pub Solved : List Bool → Netlist → Type 0
-Solved vs c = Solves vs c.inputs c.gates
-
-pub Solved-with_gates : (vs : List Bool) (c : Netlist) (gs : List Gate) → Solved vs (with_gates c gs) → Solved vs c × Solves vs (value_count c) gs
-unfolding with_gates
-Solved-with_gates vs c gs solved = (Solves-left vs c.inputs c.gates gs solved, Solves-right vs c.inputs c.gates gs solved)
-
-pub Solved-Grows : (vs : List Bool) (c d : Netlist) → Grows c d → Solved vs d → Solved vs c
-unfolding with_outputs
-Solved-Grows vs c d grows solved = (Solved-with_gates vs c grows.gates (rw grows.grown at solved)).0
-
--- the number that values stand for
-abbrev pub shown : List Bool → List ℕ → ℕ
-shown vs us = number (map (value_at vs) us)
-
 -- LAYERS
-
-xor_gates-solved : (vs : List Bool) (n : ℕ) (us ws : List ℕ) → length us ≡ length ws → Solves vs n (xor_gates us ws)
-    → map (value_at vs) (range_with_len n (length us)) ≡ xor_bits (map (value_at vs) us) (map (value_at vs) ws)
-unfolding xor_gates
-xor_gates-solved vs n [] ws same solved = refl
-xor_gates-solved vs n (u ∷ us) [] same solved = absurd (omega arith)
-xor_gates-solved vs n (u ∷ us) (w ∷ ws) same solved =
-    let rest = xor_gates-solved vs (suc n) us ws (omega arith) solved.1 in
-    rw (add-one n, solved.0, rest) refl
 
 pub shown-xor_gates : (vs : List Bool) (n k : ℕ) (us ws : List ℕ) → length us ≡ k → length ws ≡ k → Solves vs n (xor_gates us ws)
     → shown vs (range_with_len n k) ≡ bit_xor (shown vs us) (shown vs ws)
 shown-xor_gates vs n k us ws long long' solved =
-    let bits = xor_gates-solved vs n us ws (long ∙ sym long') solved in
+    let bits = bits-xors vs n us ws (long ∙ sym long') solved in
     ap (λ m. shown vs (range_with_len n m)) (sym long) ∙ ap number bits
     ∙ number-xor_bits (map (value_at vs) us) (map (value_at vs) ws) (length-map us _ ∙ long ∙ sym long' ∙ sym (length-map ws _))
 
@@ -80,33 +62,21 @@ shown-sboxes vs (suc m) n us long solved =
     shown-append vs (sbox_results n) (sboxes_results m (n + 26))
     ∙ rw (length-sbox_results n, one, others, shown-take vs 4 us four, shown-drop vs 4 us four) refl
 
-map-same : {A B : Type 0} (f g : A → B) (xs : List A) → ((x : A) → f x ≡ g x) → map f xs ≡ map g xs
-map-same f g [] same = refl
-map-same f g (x ∷ xs) same = rw (same x, map-same f g xs same) refl
-
-map-map : {A B C : Type 0} (f : B → C) (g : A → B) (xs : List A) → map f (map g xs) ≡ map (λ x. f (g x)) xs
-map-map f g [] = refl
-map-map f g (x ∷ xs) = rw (map-map f g xs) refl
-
 pub shown-moved : (vs : List Bool) (us : List ℕ) → length us ≡ 64 → shown vs (moved us) ≡ permuted (shown vs us)
 unfolding moved
 shown-moved vs us long =
     let bit : (i : ℕ) → value_at vs (slice_index us (source i)) ≡ get_or (map (value_at vs) us) (source i) false =
     λ i. sym (get_or-map (value_at vs) us (source i) 0 false (let h = source-lt i in omega arith)) in
-    ap number (map-map (value_at vs) (λ i. slice_index us (source i)) (range_with_len 0 64) ∙ map-same _ _ (range_with_len 0 64) bit)
+    ap number (map-map (value_at vs) (λ i. slice_index us (source i)) (range_with_len 0 64) ∙ map-same_in _ _ (range_with_len 0 64) (λ i _. bit i))
     ∙ sym (permuted-number (map (value_at vs) us))
 
 xor-true : (b : Bool) → xor b true ≡ not b
 xor-true true = refl
 xor-true false = refl
 
-xor-false : (b : Bool) → xor b false ≡ b
-xor-false true = refl
-xor-false false = refl
-
 not_gates-solved : (vs : List Bool) (n : ℕ) (bs : List Bool) (us : List ℕ) → length bs ≡ length us → Solves vs n (not_gates bs us)
     → map (value_at vs) (not_results n bs us) ≡ xor_bits (map (value_at vs) us) bs
-unfolding not_gates not_results
+unfolding not_gates not_results xor_bits
 not_gates-solved vs n [] [] same solved = refl
 not_gates-solved vs n [] (u ∷ us) same solved = absurd (omega arith)
 not_gates-solved vs n (b ∷ bs) [] same solved = refl

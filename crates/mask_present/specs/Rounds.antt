@@ -6,10 +6,11 @@ use Rattle.std.specs.Prelude.{ℕ, zero, suc, ◌+◌, ◌-◌, ◌*◌, ◌%◌
 use Rattle.std.specs.List.{range_with_len}
 use Rattle.mask_bits.specs.Reading.{lowest}
 use Rattle.mask_circuit.specs.declared.gates.Gate.{Gate}
-use Rattle.mask_circuit.specs.declared.gates.Gate.TheVariants.{Xor, Not}
+use Rattle.mask_circuit.specs.declared.gates.Gate.TheVariants.{Not}
 use Rattle.mask_circuit.specs.Netlist.{Netlist, value_count}
 use Rattle.mask_parts.specs.Drafts.{with_gates}
 use Rattle.mask_parts.specs.PresentSbox.{sbox_gates, sbox_results, with_sbox}
+use Rattle.mask_parts.specs.Rows.{xor_gates}
 use Rattle.mask_present.specs.Present.{Register}
 
 -- a draft, and the values that stand for the key register and for the block
@@ -20,12 +21,6 @@ pub record Stage : Type 0 where
 
 unfoldable pub stage : Netlist → List ℕ → List ℕ → Stage
 stage c us vs = record { draft = c; key = us; block = vs }
-
--- an XOR of each two values in the same place
-unfoldable pub xor_gates : List ℕ → List ℕ → List Gate
-xor_gates [] vs = []
-xor_gates (u ∷ us) [] = []
-xor_gates (u ∷ us) (v ∷ vs) = Xor u v ∷ xor_gates us vs
 
 -- a block xored with another one
 unfoldable pub xored : Netlist → List ℕ → List ℕ → Netlist

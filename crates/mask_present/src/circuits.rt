@@ -13,7 +13,7 @@ use crate::round::xor_blocks;
 use crate::rounds::present_rounds;
 use mask_check::Strong;
 use mask_circuit::{Builder, Circuit, CircuitError, Steps};
-use mask_parts::{fence_outputs, strong_circuit};
+use mask_parts::{fence_outputs, number_from, strong_circuit};
 use mask_tasks::KeySize;
 use std::alloc::{AllocError, Global};
 use std::sync::ledger::Ledger;
@@ -25,16 +25,6 @@ fn width(size: KeySize) -> u32
     match size {
         KeySize::K80 => 80,
         KeySize::K128 => 128,
-    }
-}
-
-// Numbers the places, from `first` on.
-fn number_from(places: &mut [u32], first: u32)
-    requires { first + length places.old ≤ 2 ^ 32 }
-    ensures { places.new ≡ range_with_len first (length places.old) }
-{
-    for (k, place) in places.iter_mut().enumerate() {
-        *place = first + k as u32;
     }
 }
 

@@ -12,6 +12,7 @@ mod schedule;
 
 pub use circuits::present_circuit;
 pub use mask_tasks::KeySize;
+pub use round::xor_blocks;
 pub use rounds::present_rounds;
 
 #[cfg(test)]

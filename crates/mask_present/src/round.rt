@@ -2,40 +2,26 @@
 
 ghost use Rattle.std.specs.Prelude.{◌≡◌, ◌+◌, ◌-◌, ◌<◌, ◌≤◌, [], ◌∷◌, drop, length, All};
 ghost use Rattle.std.specs.List.{range_with_len};
-ghost use Rattle.mask_circuit.specs.declared.gates.Gate.TheVariants.{Xor};
 ghost use Rattle.mask_circuit.specs.Netlist.{value_count};
 ghost use Rattle.mask_parts.specs.Drafts.{Lays, with_gates};
 ghost use Rattle.mask_present.specs.Rounds.{xored, sboxes, sboxes_results, source, moved};
 
 use crate::nibbles::{nibble, set_nibble};
 use mask_circuit::{Builder, CircuitError};
-use mask_parts::sbox4_present;
-
-fn xor(b: &mut Builder, u: u32, v: u32) -> Result<u32, CircuitError>
-    requires u_known { u < value_count b.old }
-    requires v_known { v < value_count b.old }
-    ensures { Lays b.old (with_gates b.old (Xor u v ∷ [])) (value_count b.old) b.new result }
-{
-    let _values = b.values();
-    b.xor(u, v)
-}
+use mask_parts::{number_from, sbox4_present, xor_all};
 
 /// The XOR of two blocks.
-pub(crate) fn xor_blocks(b: &mut Builder, us: &[u32], vs: &[u32]) -> Result<[u32; 64], CircuitError>
+pub fn xor_blocks(b: &mut Builder, us: &[u32], vs: &[u32]) -> Result<[u32; 64], CircuitError>
     requires us_block { length us.now ≡ 64 }
     requires vs_block { length vs.now ≡ 64 }
     requires us_known { All (λ u. u < value_count b.old) us.now }
     requires vs_known { All (λ u. u < value_count b.old) vs.now }
     ensures { Lays b.old (xored b.old us.now vs.now) (range_with_len (value_count b.old) 64) b.new result }
 {
-    let _values = b.values();
+    let first = b.values();
+    xor_all(b, us, vs)?;
     let mut sums = [0; 64];
-    for k in 0..64 {
-        sums[k] = match xor(b, us[k], vs[k]) {
-            Ok(sum) => sum,
-            Err(e) => return Err(e),
-        };
-    }
+    number_from(&mut sums, first);
     Ok(sums)
 }
 

@@ -14,23 +14,15 @@ use Rattle.mask_parts.specs.CipherCircuits.{size_of, IsCipherCircuit}
 use Rattle.mask_parts.specs.Drafts.{with_gates, with_outputs, bits_of}
 use Rattle.mask_parts.specs.Fences.{with_fence}
 use Rattle.mask_parts.proofs.Concluding.{IsStrong-tidy_fence, IsCipherCircuit-strong}
+use Rattle.mask_parts.proofs.Counting.{same_size, size-with_fence}
 use Rattle.mask_parts.proofs.Fencing.{IsWellFormed-fence, plain-with_fence}
+use Rattle.mask_parts.proofs.Inputs.{IsTidy-inputs, AreOf-inputs}
+use Rattle.mask_parts.proofs.Passing.{AreOf}
+use Rattle.mask_parts.proofs.Ranges.{read-all}
 use Rattle.mask_refresh.specs.Refreshing.{refreshing, refreshing_size, same_bits}
-use Rattle.mask_refresh.proofs.Ranges.{below-bound, map-range}
 
--- among inputs there is no gate
-no_gates : (n p : ℕ) (g : Gate) → gate_at (only_inputs n) p ≡ Some g → ⊥
-no_gates n p g is = let within = gate_at_within (only_inputs n) p g is in omega (arith, within.0, within.1)
-
-tidy-inputs : (n : ℕ) → IsTidy (only_inputs n)
-tidy-inputs n = record {
-  refreshed = λ p u v is. absurd (no_gates n p _ is);
-  apart = λ p u v is. absurd (no_gates n p _ is);
-  alone = λ p u v q is uses. absurd (no_gates n p _ is);
-}
-
-pub below-inputs : (n : ℕ) → All (λ u. u < value_count (only_inputs n)) (range_with_len 0 n)
-below-inputs n k d lt = let low = below-bound n k d lt in omega (arith, low)
+pub below-inputs : (n : ℕ) → AreOf (only_inputs n) (range_with_len 0 n)
+below-inputs n = AreOf-inputs n 0 n (omega arith)
 
 pub IsWellFormed-refreshing : (n : ℕ) → IsWellFormed (refreshing n)
 unfolding refreshing
@@ -38,31 +30,19 @@ IsWellFormed-refreshing n = IsWellFormed-fence (only_inputs n) (range_with_len 0
 
 pub strong-refreshing : (n : ℕ) → IsStrong (refreshing n)
 unfolding refreshing
-strong-refreshing n = IsStrong-tidy_fence (only_inputs n) (range_with_len 0 n) tt (below-inputs n) refl (tidy-inputs n)
-
-no_products : (us : List ℕ) → count_by is_product (map Ref us) ≡ 0
-no_products [] = refl
-no_products (u ∷ us) = no_products us
-
-all_refreshes : (us : List ℕ) → count_by is_refresh (map Ref us) ≡ length us
-all_refreshes [] = refl
-all_refreshes (u ∷ us) =
-    let more = sum_by-cons (λ (g : Gate). cond (is_refresh g) 1 0) (Ref u) (map Ref us) in
-    let rest = all_refreshes us in
-    omega (arith, more, rest)
+strong-refreshing n = IsStrong-tidy_fence (only_inputs n) (range_with_len 0 n) tt (below-inputs n) refl (IsTidy-inputs n)
 
 pub size-refreshing : (n : ℕ) → size_of (refreshing n) ≡ refreshing_size n
-unfolding refreshing size_of with_fence with_gates with_outputs
+unfolding refreshing
 size-refreshing n =
-    let us = range_with_len 0 n in
-    let long : length us ≡ n = length-range_with_len 0 n in
-    rw (no_products us, all_refreshes us, length-map us Ref, length-range_with_len (n + 0) (length us), long) refl
+    let long : length (range_with_len 0 n) ≡ n = length-range_with_len 0 n in
+    size-with_fence (only_inputs n) (range_with_len 0 n) refl ∙ same_size _ _ refl long refl (omega arith) (omega arith)
 
 pub plain-refreshing : (n : ℕ) (x : List Bool) → length x ≡ n → plain (refreshing n) x ≡ x
 unfolding refreshing bits_of
 plain-refreshing n x long =
     plain-with_fence (only_inputs n) (range_with_len 0 n) tt (below-inputs n) x long (λ k d lt. absurd (omega (arith, lt)))
-    ∙ rw (sym long) (map-range x)
+    ∙ rw (sym long) (read-all x)
 
 -- the fence of these inputs is this circuit
 pub fenced-inputs : (n : ℕ) (c : Netlist) (us : List ℕ) → c ≡ only_inputs n → us ≡ range_with_len 0 n → with_fence c us ≡ refreshing n

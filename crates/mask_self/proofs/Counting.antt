@@ -5,11 +5,12 @@ use Rattle.std.proofs.Math.Nat.{mul-le-mul_right}
 use Rattle.mask_circuit.proofs.Places.{length-each}
 use Rattle.mask_tasks.specs.declared.tasks.Task.{Task}
 use Rattle.mask_tasks.specs.declared.tasks.Task.TheVariants.{Present, Lea}
+use Rattle.mask_parts.specs.CipherCircuits.{gate_bits}
 use Rattle.mask_modes.specs.CounterMode.{block_count}
 use Rattle.mask_modes.specs.Steps.{Mode, ahead_of, block_at, block_step, blocks, refresh_step, steps_from, steps_of}
 use Rattle.mask_ciphers.specs.Methods.{IsCipher}
 use Rattle.mask_ciphers.specs.Tasks.{method_of}
-use Rattle.mask_ciphers.specs.Totals.{counter_bits, gate_bits, total}
+use Rattle.mask_ciphers.specs.Totals.{counter_bits, total}
 
 -- STEPS
 

@@ -9,8 +9,8 @@ use Rattle.mask_bits.proofs.Numbers.{bit-number}
 use Rattle.mask_circuit.specs.Value.{xor}
 use Rattle.mask_circuit.specs.Wires.{each}
 use Rattle.mask_laws.proofs.Bits.{xor_of_digits}
+use Rattle.mask_parts.specs.Rows.{xor_bits}
 use Rattle.mask_trivium.specs.Trivium.{bytes, clocks, keystream, outputs}
-use Rattle.mask_trivium.specs.NamedTrivium.{added}
 use Rattle.mask_trace.specs.Steps.{Registers}
 use Rattle.mask_trace.specs.Values.{value_after}
 use Rattle.mask_modes.specs.CounterMode.{block_count, xor_bytes}
@@ -43,13 +43,13 @@ xor-swap true false = refl
 xor-swap false true = refl
 xor-swap false false = refl
 
-get_or-added : (xs ys : List Bool) (i : ℕ) → i < length xs → i < length ys →
-    get_or (added xs ys) i false ≡ xor (get_or xs i false) (get_or ys i false)
-unfolding added
-get_or-added [] ys i lt lt' = absurd (omega arith)
-get_or-added (x ∷ xs) [] i lt lt' = absurd (omega arith)
-get_or-added (x ∷ xs) (y ∷ ys) zero lt lt' = refl
-get_or-added (x ∷ xs) (y ∷ ys) (suc i) lt lt' = get_or-added xs ys i (omega arith) (omega arith)
+get_or-xor_bits : (xs ys : List Bool) (i : ℕ) → i < length xs → i < length ys →
+    get_or (xor_bits xs ys) i false ≡ xor (get_or xs i false) (get_or ys i false)
+unfolding xor_bits
+get_or-xor_bits [] ys i lt lt' = absurd (omega arith)
+get_or-xor_bits (x ∷ xs) [] i lt lt' = absurd (omega arith)
+get_or-xor_bits (x ∷ xs) (y ∷ ys) zero lt lt' = refl
+get_or-xor_bits (x ∷ xs) (y ∷ ys) (suc i) lt lt' = get_or-xor_bits xs ys i (omega arith) (omega arith)
 
 get_or-xor_bytes : (xs ys : List ℕ) (k : ℕ) → k < length xs → k < length ys →
     get_or (xor_bytes xs ys) k 0 ≡ bit_xor (get_or xs k 0) (get_or ys k 0)
@@ -98,7 +98,7 @@ one_block piece some few = let e : block_count 8 (length piece) ≡ 1 = omega ar
 piece_value : (iv : List ℕ) (held : Registers Bool) (n : ℕ) (piece : List ℕ) → length iv ≡ 10 → IsHeldBehind n held →
     0 < length piece → length piece ≤ 8 →
     (value_after held (steps_behind iv n piece)).state
-    ≡ clocks 64 (state_at iv held n) ++ added (outputs 64 (state_at iv held n)) (low (block_at 8 piece 0))
+    ≡ clocks 64 (state_at iv held n) ++ xor_bits (outputs 64 (state_at iv held n)) (low (block_at 8 piece 0))
 unfolding value_after
 piece_value iv held n piece ten is some few =
     let now = value_after held (ahead iv n) in
@@ -106,7 +106,7 @@ piece_value iv held n piece ten is some few =
     ap (λ (r : Registers Bool). r.state) (values_of_some iv held n piece some)
     ∙ ap (λ (parts : List (List ℕ)). (value_after now (map stream_step parts)).state) (one_block piece some few)
     ∙ stream_value now (block_at 8 piece 0) ready.enough (length-block_at 8 piece 0)
-    ∙ ap (λ (s : List Bool). clocks 64 s ++ added (outputs 64 s) (low (block_at 8 piece 0))) ready.state
+    ∙ ap (λ (s : List Bool). clocks 64 s ++ xor_bits (outputs 64 s) (low (block_at 8 piece 0))) ready.state
 
 pub outputs_are_bits : OutputsAreBits
 outputs_are_bits iv held n piece k p ten is few lt small =
@@ -117,10 +117,10 @@ outputs_are_bits iv held n piece k p ten is few lt small =
     let eight : length block ≡ 8 = length-block_at 8 piece 0 in
     let made = bytes (length piece) (outputs (8 * length piece) state) in
     ap (λ bits. get_or bits (288 + (8 * k + p)) false) (piece_value iv held n piece ten is (omega arith) few)
-    ∙ get_or-append_right (clocks 64 state) (added (outputs 64 state) (low block)) 288 (288 + (8 * k + p)) false size
+    ∙ get_or-append_right (clocks 64 state) (xor_bits (outputs 64 state) (low block)) 288 (288 + (8 * k + p)) false size
     (omega arith)
-    ∙ ap (λ (i : ℕ). get_or (added (outputs 64 state) (low block)) i false) place
-    ∙ get_or-added (outputs 64 state) (low block) (8 * k + p)
+    ∙ ap (λ (i : ℕ). get_or (xor_bits (outputs 64 state) (low block)) i false) place
+    ∙ get_or-xor_bits (outputs 64 state) (low block) (8 * k + p)
     (omega (arith, length-outputs 64 state)) (omega (arith, length-low block))
     ∙ ap₂ xor
     (get_or-outputs (8 * length piece) 64 state (8 * k + p) (omega arith) (omega arith)

@@ -6,7 +6,7 @@ use Rattle.std.proofs.lemmas.List.Elements.{All-nil, All-cons}
 use Rattle.mask_bits.specs.Reading.{low, number, AreBytes}
 use Rattle.mask_bits.proofs.Numbers.{number-lt}
 use Rattle.mask_trivium.specs.Trivium.{bytes, clocked, clocks, keystream, loaded, next_first, next_second, next_third, output, outputs, started}
-use Rattle.mask_trivium.proofs.Shifting.{length-shifted}
+use Rattle.mask_trivium.proofs.Shifting.{length-shifted, clocks-add}
 use Rattle.mask_modes.specs.CounterMode.{xor_bytes}
 use Rattle.mask_modes.proofs.Blocks.{xor_bytes_are_bytes}
 use Rattle.mask_modes.proofs.Xors.{length-xor_bytes, xor_bytes-append_right, xor_bytes-take, xor_bytes_twice}
@@ -23,11 +23,6 @@ pub length-clocks : (n : ℕ) (state : List Bool) → length state ≡ 288 → l
 unfolding clocks
 length-clocks zero state long = long
 length-clocks (suc n) state long = length-clocks n (clocked state) (length-clocked state long)
-
-pub clocks-add : (m n : ℕ) (state : List Bool) → clocks (m + n) state ≡ clocks n (clocks m state)
-unfolding clocks
-clocks-add zero n state = let e : 0 + n ≡ n = omega arith in rw e refl
-clocks-add (suc m) n state = let e : suc m + n ≡ suc (m + n) = omega arith in rw e (clocks-add m n (clocked state))
 
 -- the state of a key and an IV has 288 bits
 length-loaded : (nought one : Bool) (key iv : List Bool) → length key ≡ 80 → length iv ≡ 80 →

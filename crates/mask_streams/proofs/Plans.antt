@@ -15,7 +15,9 @@ use Rattle.mask_trivium.specs.NamedTrivium.{named_start, named_step, size_start,
 use Rattle.mask_trivium.proofs.Concluding.{IsCipherCircuit-named_start, IsCipherCircuit-named_step}
 use Rattle.mask_trace.specs.Steps.{InputBit, Public, Plain, Key, State, Step, IsThere, IsNotHeld, IsStrongStep, IsStrongPlan, state_after}
 use Rattle.mask_trace.specs.Privacy.{AreAlike, blank, without_message}
+use Rattle.mask_trace.proofs.Beginnings.{IsStrongPlan-take, AreAlike-take}
 use Rattle.mask_trace.proofs.Showing.{plans_are_private, plans_are_runs}
+use Rattle.mask_trace.proofs.Taking.{held_once, length-held, held_there, inputs_are_alike, with_inputs}
 use Rattle.mask_modes.specs.CounterMode.{block_count}
 use Rattle.mask_modes.specs.Steps.{block_at, blocks}
 use Rattle.mask_modes.proofs.Blocks.{blocks_are_long}
@@ -92,61 +94,7 @@ plans_split = record {
   behind = steps-append;
 }
 
--- INPUTS
-
--- no bit that a register holds is there twice
-abbrev IsOnce : List InputBit → Type 0
-IsOnce is = (u v : ℕ) → u < v → v < length is → get_or is u (Public false) ≡ get_or is v (Public false) →
-    IsNotHeld (get_or is u (Public false))
-
--- The first k bits of a register, and then bits that no register holds: those of the key or of the state, where `held i` is
--- its bit i.
-module _ (held : ℕ → InputBit) (one_to_one : (i j : ℕ) → held i ≡ held j → i ≡ j) (k : ℕ) (more : List InputBit) where
-  held_at : (i : ℕ) → i < k → get_or (each held k ++ more) i (Public false) ≡ held i
-  held_at i lt =
-      get_or_append_left (each held k) more (Public false) i (omega (arith, length-each held k))
-      ∙ get_or-each held k i (Public false) lt
-
-  held_once : All IsNotHeld more → IsOnce (each held k ++ more)
-  held_once none u v lt within same = go (cases_lt u k) (cases_lt v k)
-    where
-      behind : (i : ℕ) → k ≤ i → i < length (each held k ++ more) → IsNotHeld (get_or (each held k ++ more) i (Public false))
-      behind i ge l =
-          subst IsNotHeld (sym (get_or-append_right (each held k) more k i (Public false) (length-each held k) ge))
-          (none (i - k) (Public false) (omega (arith, length-append (each held k) more, length-each held k)))
-
-      go : (u < k) ⊎ (k ≤ u) → (v < k) ⊎ (k ≤ v) → IsNotHeld (get_or (each held k ++ more) u (Public false))
-      go (inl below) (inl low) =
-          let e : u ≡ v = one_to_one u v (sym (held_at u below) ∙ same ∙ held_at v low) in
-          absurd (omega arith)
-      go (inl below) (inr high) = subst IsNotHeld (sym same) (behind v high within)
-      go (inr above) other = behind u above (omega arith)
-
-  length-held : (n : ℕ) → length more ≡ n → length (each held k ++ more) ≡ k + n
-  length-held n long = length-append (each held k) more ∙ ap₂ (λ (a b : ℕ). a + b) (length-each held k) long
-
-  held_there : (a b : ℕ) → ((i : ℕ) → i < k → IsThere a b (held i)) → All (IsThere a b) more →
-      All (IsThere a b) (each held k ++ more)
-  held_there a b there others = All-append (IsThere a b) (each held k) more (All-each (IsThere a b) held k there) others
-
 -- MESSAGE BITS
-
-hidden : (xs ys : List Bool) → length xs ≡ length ys → map without_message (map Plain xs) ≡ map without_message (map Plain ys)
-hidden [] [] e = refl
-hidden [] (y ∷ ys) e = absurd (omega arith)
-hidden (x ∷ xs) [] e = absurd (omega arith)
-hidden (x ∷ xs) (y ∷ ys) e = ap (λ l. Plain false ∷ l) (hidden xs ys (omega arith))
-
--- inputs with as many message bits are the same but for these
-inputs_are_alike : (front : List InputBit) (xs ys : List Bool) → length xs ≡ length ys →
-    map without_message (front ++ map Plain xs) ≡ map without_message (front ++ map Plain ys)
-inputs_are_alike front xs ys e =
-    map-append without_message front (map Plain xs)
-    ∙ ap (λ l. map without_message front ++ l) (hidden xs ys e)
-    ∙ sym (map-append without_message front (map Plain ys))
-
-abbrev with_inputs : List InputBit → Step → Step
-with_inputs is s = record { circuit = s.circuit; inputs = is; keeps = s.keeps }
 
 streams_are_alike : (parts others : List (List ℕ)) → All (λ block. length block ≡ 8) parts →
     All (λ block. length block ≡ 8) others →
@@ -238,25 +186,14 @@ piece_is_strong iv n s (byte ∷ more) ten there = go (n == 0) refl
 plan_is_strong : (iv message : List ℕ) → length iv ≡ 10 → IsStrongPlan 80 0 (stream_plan iv message)
 plan_is_strong iv message ten = piece_is_strong iv 0 0 message ten (λ some. absurd (omega arith))
 
--- the first steps of a strong plan are one
-first_are_strong : (k s count : ℕ) (steps : List Step) → IsStrongPlan k s steps → IsStrongPlan k s (take count steps)
-first_are_strong k s zero steps strong = tt
-first_are_strong k s (suc count) [] strong = tt
-first_are_strong k s (suc count) (step ∷ steps) strong =
-    (strong.0, first_are_strong k (state_after step.keeps step.circuit s) count steps strong.1)
-
--- those of alike steps are alike
-first_are_alike : (count : ℕ) (ss ts : List Step) → AreAlike ss ts → AreAlike (take count ss) (take count ts)
-first_are_alike count ss ts alike = sym (take-map blank count ss) ∙ ap (take count) alike ∙ take-map blank count ts
-
 pub plans_are_strong : PlansAreStrong
 plans_are_strong = record {
   strong = plan_is_strong;
-  part = λ iv message count ten. first_are_strong 80 0 count (stream_plan iv message) (plan_is_strong iv message ten);
+  part = λ iv message count ten. IsStrongPlan-take 80 0 count (stream_plan iv message) (plan_is_strong iv message ten);
   behind = piece_is_strong;
   alike = plans_are_alike;
   parts_alike = λ iv message other count e.
-      first_are_alike count (stream_plan iv message) (stream_plan iv other) (plans_are_alike iv message other e);
+      AreAlike-take count (stream_plan iv message) (stream_plan iv other) (plans_are_alike iv message other e);
 }
 
 pub runs_are_private : RunsArePrivate

@@ -10,7 +10,8 @@ use Rattle.mask_circuit.specs.Expansion.{draws}
 use Rattle.mask_circuit.proofs.Draws.{draws-product}
 use Rattle.mask_circuit.proofs.PairNumbers.{length-pairs}
 use Rattle.mask_circuit.proofs.Places.{length-each}
-use Rattle.mask_parts.specs.CipherCircuits.{Size, size_of}
+use Rattle.mask_parts.specs.CipherCircuits.{Size, size_of, gate_bits}
+use Rattle.mask_parts.proofs.Drawing.{draws-gates}
 use Rattle.mask_trivium.specs.NamedTrivium.{named_start, named_step, size_start, size_step}
 use Rattle.mask_trivium.proofs.Concluding.{IsCipherCircuit-named_start, IsCipherCircuit-named_step}
 use Rattle.mask_trace.specs.Steps.{InputBit, Public, Plain, Key, State, plain_bits, stretch, bits_of}
@@ -19,28 +20,9 @@ use Rattle.mask_trace.proofs.Traces.{bits_of-cons}
 use Rattle.mask_modes.specs.CounterMode.{block_count}
 use Rattle.mask_modes.specs.Steps.{block_at, blocks}
 use Rattle.mask_modes.proofs.Blocks.{blocks_are_long}
-use Rattle.mask_streams.specs.Streams.{block_steps, gate_bits, start_step, stream_bits, stream_step}
+use Rattle.mask_streams.specs.Streams.{block_steps, start_step, stream_bits, stream_step}
 use Rattle.mask_streams.specs.Laws.{RunBits}
 use Rattle.mask_streams.proofs.Plans.{block_steps-map}
-
--- GATES
-
--- d + 1 shares have so many pairs
-pairs_of_shares : (d : ℕ) → gate_bits d ≡ length (pairs (suc d))
-pairs_of_shares d =
-    let one_less : suc d - 1 ≡ d = omega arith in
-    let twice : d * suc d ≡ suc d * (suc d - 1) = rw one_less (omega arith) in
-    ap (λ (n : ℕ). n / 2) twice ∙ sym (length-pairs (suc d))
-
--- the products and refreshes of a circuit of this size draw a bit for each pair
-draws-gates : (c : Netlist) (size : Size) (d gates : ℕ) → size_of c ≡ size → size.products + size.refreshes ≡ gates →
-    draws c (suc d) ≡ gates * gate_bits d
-unfolding size_of
-draws-gates c size d gates is all =
-    let count : product_count c + refresh_count c ≡ gates = ap (λ (s : Size). s.products + s.refreshes) is ∙ all in
-    draws-product c (suc d) (gate_bits d) (pairs_of_shares d)
-    ∙ ap (λ (n : ℕ). gate_bits d * n) count
-    ∙ mul_comm (gate_bits d) gates
 
 -- STEPS
 

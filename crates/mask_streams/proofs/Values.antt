@@ -10,17 +10,20 @@ use Rattle.mask_circuit.specs.Value.{plain, value_at}
 use Rattle.mask_circuit.specs.Wires.{each}
 use Rattle.mask_circuit.proofs.Places.{length-each}
 use Rattle.mask_shares.proofs.Lists.{each-get_or, each-same, map-each}
+use Rattle.mask_parts.specs.Rows.{xor_bits}
 use Rattle.mask_trivium.specs.Trivium.{clocks, outputs, started}
-use Rattle.mask_trivium.specs.NamedTrivium.{added, named_start, named_step, start_of_bits, step_of_bits}
+use Rattle.mask_trivium.specs.NamedTrivium.{named_start, named_step, start_of_bits, step_of_bits}
 use Rattle.mask_trivium.proofs.Concluding.{IsCipherCircuit-named_start, IsCipherCircuit-named_step}
+use Rattle.mask_trivium.proofs.Shifting.{clocks-add}
 use Rattle.mask_trace.specs.Steps.{Public, Plain, Key, State, Registers, Step, kept}
 use Rattle.mask_trace.specs.Values.{input_value, step_value, value_after}
+use Rattle.mask_trace.proofs.Beginnings.{value_after-append}
 use Rattle.mask_modes.specs.CounterMode.{block_count}
 use Rattle.mask_modes.specs.Steps.{block_at, blocks}
 use Rattle.mask_modes.proofs.Blocks.{blocks_are_long}
 use Rattle.mask_streams.specs.Streams.{IsHeldBehind, ahead, start_step, state_at, steps_behind, stream_step, with_key}
 use Rattle.mask_streams.specs.Laws.{RegistersGoOn}
-use Rattle.mask_streams.proofs.Keystreams.{clocks-add, length-clocks, length-started}
+use Rattle.mask_streams.proofs.Keystreams.{length-clocks, length-started}
 use Rattle.mask_streams.proofs.Plans.{block_steps-map, start_inputs, start_outputs, step_inputs, step_outputs, steps-append, steps_of_some}
 
 -- ONE STEP
@@ -60,7 +63,7 @@ stream_values held block enough =
 
 -- a step makes the next state, and behind it the block with the bits that the clocks output
 pub stream_value : (held : Registers Bool) (block : List ℕ) → 288 ≤ length held.state → length block ≡ 8 →
-    step_value held (stream_step block) ≡ clocks 64 (take 288 held.state) ++ added (outputs 64 (take 288 held.state)) (low block)
+    step_value held (stream_step block) ≡ clocks 64 (take 288 held.state) ++ xor_bits (outputs 64 (take 288 held.state)) (low block)
 unfolding step_of_bits
 stream_value held block enough eight =
     let state = take 288 held.state in
@@ -68,7 +71,7 @@ stream_value held block enough eight =
     let all : length (state ++ low block) ≡ 352 = length-append state (low block) ∙ (let e = length-low block in omega arith) in
     ap (plain named_step) (stream_values held block enough)
     ∙ IsCipherCircuit-named_step.computes (state ++ low block) (all ∙ sym step_inputs)
-    ∙ ap₂ (λ (s bs : List Bool). clocks 64 s ++ added (outputs 64 s) bs)
+    ∙ ap₂ (λ (s bs : List Bool). clocks 64 s ++ xor_bits (outputs 64 s) bs)
     (take_at state (low block) 288 size) (drop_at state (low block) 288 size)
 
 length-start_value : (held : Registers Bool) (iv : List ℕ) → length (step_value held (start_step iv)) ≡ 288
@@ -78,12 +81,6 @@ pub length-stream_value : (held : Registers Bool) (block : List ℕ) → length 
 length-stream_value held block = length-map named_step.outputs (value_at _) ∙ step_outputs
 
 -- MANY STEPS
-
-pub values-append : (held : Registers Bool) (ss ts : List Step) →
-    value_after held (ss ++ ts) ≡ value_after (value_after held ss) ts
-unfolding value_after
-values-append held [] ts = refl
-values-append held (s ∷ ss) ts = values-append (kept s.keeps (step_value held s) held) ss ts
 
 -- the registers behind the step of a block
 abbrev behind_block : Registers Bool → List ℕ → Registers Bool
@@ -178,7 +175,7 @@ pub values_of_some : (iv : List ℕ) (held : Registers Bool) (n : ℕ) (piece : 
     value_after held (steps_behind iv n piece) ≡ value_after (behind_ahead iv held n) (map stream_step (blocks 8 piece))
 values_of_some iv held n piece some =
     ap (value_after held) (steps_of_some iv n piece some ∙ ap (λ (l : List Step). ahead iv n ++ l) (block_steps-map piece))
-    ∙ values-append held (ahead iv n) (map stream_step (blocks 8 piece))
+    ∙ value_after-append held (ahead iv n) (map stream_step (blocks 8 piece))
 
 key_stays : (iv : List ℕ) (held : Registers Bool) (n : ℕ) (piece : List ℕ) →
     (value_after held (steps_behind iv n piece)).key ≡ held.key
@@ -215,7 +212,7 @@ registers_go_on = record {
   held = held_behind;
   joins = λ iv held n front piece whole.
       ap (value_after held) (steps-append iv n front piece whole)
-      ∙ values-append held (steps_behind iv n front) (steps_behind iv (n + length front) piece);
+      ∙ value_after-append held (steps_behind iv n front) (steps_behind iv (n + length front) piece);
 }
 
 -- THE STATE BEHIND WHOLE BLOCKS

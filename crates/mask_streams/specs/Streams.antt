@@ -3,6 +3,7 @@
 use Rattle.std.specs.Prelude.{◌≡◌, ℕ, zero, suc, ◌+◌, ◌*◌, ◌/◌, ◌<◌, Bool, ◌==◌, cond, List, [], ◌∷◌, ◌++◌, map, length, take}
 use Rattle.mask_bits.specs.Reading.{low}
 use Rattle.mask_circuit.specs.Wires.{each}
+use Rattle.mask_parts.specs.CipherCircuits.{gate_bits}
 use Rattle.mask_trace.specs.Steps.{Public, Plain, Key, State, AsState, Registers, Step}
 use Rattle.mask_trivium.specs.Trivium.{bytes, keystream, outputs, started}
 use Rattle.mask_trivium.specs.NamedTrivium.{named_start, named_step}
@@ -61,10 +62,6 @@ pub record IsHeldBehind (n : ℕ) (held : Registers Bool) : Type 0 where
   pub state : 0 < n → length held.state ≡ 352
 
 -- RANDOM BITS
-
--- the bits that a product or a refresh draws at order d: one for each pair of shares
-abbrev pub gate_bits : ℕ → ℕ
-gate_bits d = d * suc d / 2
 
 -- The bits that a run on so many blocks draws: the 3,456 products and 3,744 refreshes of the start; for each block d to share
 -- each of its 64 bits, and those of 192 products and 544 refreshes. A run on no block draws none.

@@ -48,7 +48,7 @@ public-unmasks b (suc n) some =
 
 -- INPUTS
 
-length-input_shares : (N : ℕ) (have : Registers BitShares) (is : List InputBit) (r : List Bool) → length (input_shares N have is r) ≡ length is
+pub length-input_shares : (N : ℕ) (have : Registers BitShares) (is : List InputBit) (r : List Bool) → length (input_shares N have is r) ≡ length is
 length-input_shares N have [] r = refl
 length-input_shares N have (Public b ∷ is) r = ap suc (length-input_shares N have is r)
 length-input_shares N have (Plain b ∷ is) r = ap suc (length-input_shares N have is (drop (pred N) r))

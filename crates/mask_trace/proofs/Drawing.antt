@@ -9,7 +9,7 @@ use Rattle.mask_gadget.proofs.Telling.{told_more-none, told_more-more}
 use Rattle.mask_eval.specs.Watching.{Told, told_more}
 use Rattle.mask_trace.specs.Steps.{Registers, Step, stretch, bits_of}
 use Rattle.mask_trace.specs.Traces.{BitShares, evaluation, after_step, after, trace}
-use Rattle.mask_trace.specs.Drawing.{Stand, Drew, Ran}
+use Rattle.mask_trace.specs.Drawing.{Stand, Drew, Ran, stand}
 use Rattle.mask_trace.specs.Laws.{RunsJoin, DrawsJoin, PartsAreBeginnings, DrawnIsDrew}
 use Rattle.mask_trace.proofs.Traces.{traces_split, tape_is_enough}
 
@@ -146,6 +146,12 @@ runs_join = record {
     ran = subst (λ (steps : List Step). Ran N have steps now a b) (sym (take_all (length ss) ss (omega arith))) ran;
   };
 }
+
+-- a stand is known by its parts
+pub same_stand : (kept kept' : List Bool) (left left' : Option (List ℕ)) (told told' : Option (List Told)) → kept ≡ kept' → left ≡ left' → told ≡ told' →
+    stand kept left told ≡ stand kept' left' told'
+same_stand kept kept' left left' told told' k l t =
+    ap₂ (λ (x : List Bool) (y : Option (List ℕ)). stand x y told) k l ∙ ap (λ (z : Option (List Told)). stand kept' left' z) t
 
 -- BEGINNINGS
 

@@ -48,7 +48,7 @@ keys N have zero r = refl
 keys N have (suc n) r =
     both N have (each Key n) (Key n ∷ []) r ∙ ap (λ (ss : List BitShares). ss ++ get_or have.key n [] ∷ []) (keys N have n r)
 
-states : (N : ℕ) (have : Registers BitShares) (n : ℕ) (r : List Bool) → input_shares N have (each State n) r ≡ each (λ k. get_or have.state k []) n
+pub states : (N : ℕ) (have : Registers BitShares) (n : ℕ) (r : List Bool) → input_shares N have (each State n) r ≡ each (λ k. get_or have.state k []) n
 states N have zero r = refl
 states N have (suc n) r =
     both N have (each State n) (State n ∷ []) r ∙ ap (λ (ss : List BitShares). ss ++ get_or have.state n [] ∷ []) (states N have n r)
@@ -99,7 +99,7 @@ each-lane l w (suc n) =
     map-append (bit l) (each (on_first words w) n) (on_first words w n ∷ [])
     ∙ ap₂ (λ (bs : List Bool) (b : Bool). bs ++ b ∷ []) (each-lane l w n) (on_first-lane l w n)
 
-publics-lane : (l N : ℕ) (ws : List ℕ) → map (lane l) (map (λ w. each (on_first words w) N) ws) ≡ map (λ b. each (on_first bits b) N) (lane l ws)
+pub publics-lane : (l N : ℕ) (ws : List ℕ) → map (lane l) (map (λ w. each (on_first words w) N) ws) ≡ map (λ b. each (on_first bits b) N) (lane l ws)
 publics-lane l N [] = refl
 publics-lane l N (w ∷ ws) = ap₂ (λ (s : BitShares) (ss : List BitShares). s ∷ ss) (each-lane l w N) (publics-lane l N ws)
 

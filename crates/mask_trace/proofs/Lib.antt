@@ -11,3 +11,5 @@ pub mod Woven
 pub mod Alike
 pub mod Showing
 pub mod Computing
+pub mod Beginnings
+pub mod Taking

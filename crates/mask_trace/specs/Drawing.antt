@@ -12,6 +12,10 @@ pub record Stand : Type 0 where
   pub left : Option (List ℕ)
   pub told : Option (List Told)
 
+-- tape, entropy and watch at a time
+abbrev pub stand : List Bool → Option (List ℕ) → Option (List Told) → Stand
+stand kept left told = record { kept = kept; left = left; told = told }
+
 -- So many bits were drawn: the kept ones, and then those of these fresh bytes, of which there are no more than needed.
 pub record Drew (bits : ℕ) (fresh : List ℕ) (a b : Stand) : Type 0 where
   pub taken : Takes a.left b.left fresh

@@ -4,9 +4,9 @@ use Rattle.std.proofs.lemmas.List.Elements.{All-nil}
 use Rattle.mask_circuit.specs.Netlist.{Netlist, value_count}
 use Rattle.mask_parts.specs.Drafts.{Grows, IsWithinLimits}
 use Rattle.mask_parts.proofs.Growing.{Grows-refl, Grows-trans}
+use Rattle.mask_parts.proofs.Passing.{Formed, AreOf, ready-known}
 use Rattle.mask_trivium.specs.Clocks.{Clock, Stage, stage, with_clock, with_clocks}
 use Rattle.mask_trivium.proofs.Clocking.{IsClock}
-use Rattle.mask_trivium.proofs.Passing.{Formed, AreOf, ready-known}
 use Rattle.mask_trivium.proofs.Running.{Grows-clock, Grows-clocks, IsFine, Runs-clock}
 
 -- a stage of values of a draft

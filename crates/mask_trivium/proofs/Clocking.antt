@@ -2,9 +2,10 @@
 use Rattle.std.proofs.Common.{◌≡◌, ℕ, Bool, true, List, [], ◌∷◌, length, map, replicate, refl}
 use Rattle.mask_circuit.specs.Value.{value_at}
 use Rattle.mask_parts.specs.Tables.{part_gates, part_usable, is_part, part_bits}
+use Rattle.mask_parts.proofs.Counting.{Counts}
+use Rattle.mask_parts.proofs.PartTidiness.{are_usable}
 use Rattle.mask_trivium.specs.Clocks.{Clock, setup, stream, setup_steps, stream_steps}
 use Rattle.mask_trivium.specs.Trivium.{output, next_first, next_second, next_third}
-use Rattle.mask_trivium.proofs.Counting.{Counts}
 
 -- The table has v gates and computes a clock. On a state, the bits that it outputs are those that out gives.
 pub record IsClock (k : Clock) (v : ℕ) (out : List Bool → List Bool) : Type 0 where
@@ -13,7 +14,7 @@ pub record IsClock (k : Clock) (v : ℕ) (out : List Bool → List Bool) : Type 
   pub first_free : value_at (part_usable k.steps) k.first ≡ true
   pub second_free : value_at (part_usable k.steps) k.second ≡ true
   pub third_free : value_at (part_usable k.steps) k.third ≡ true
-  pub output_free : map (value_at (part_usable k.steps)) k.output ≡ replicate (length k.output) true
+  pub output_free : are_usable (part_usable k.steps) k.output ≡ true
   pub first_made : (bits : List Bool) → value_at (part_bits bits k.steps) k.first ≡ next_first bits
   pub second_made : (bits : List Bool) → value_at (part_bits bits k.steps) k.second ≡ next_second bits
   pub third_made : (bits : List Bool) → value_at (part_bits bits k.steps) k.third ≡ next_third bits

@@ -13,89 +13,24 @@ use Rattle.mask_circuit.specs.Acceptance.{IsStrong}
 use Rattle.mask_parts.specs.CipherCircuits.{Size, size_of, IsCipherCircuit}
 use Rattle.mask_parts.specs.Drafts.{with_gates, with_outputs, bits_of, Grows, IsWithinLimits}
 use Rattle.mask_parts.specs.Fences.{with_fence}
-use Rattle.mask_parts.proofs.Concluding.{IsStrong-tidy_fence, IsCipherCircuit-strong}
+use Rattle.mask_parts.specs.Rows.{xor_gates, xor_bits}
+use Rattle.mask_parts.proofs.Concluding.{IsStrong-tidy_fence, IsCipherCircuit-strong, Grows-fence, IsDone, IsStrong-done, IsCipherCircuit-done}
+use Rattle.mask_parts.proofs.Counting.{same_size, size-with_fence, IsWithinLimits-sized}
 use Rattle.mask_parts.proofs.Fencing.{IsWellFormed-fence, plain-with_fence}
 use Rattle.mask_parts.proofs.Growing.{inputs-with_gates, outputs-with_gates, value_count-with_gates, product_count-with_gates, refresh_count-with_gates, Grows-trans, Grows-with_gates, Grows-with_outputs}
-use Rattle.mask_parts.proofs.Solving.{Solves, Solves-all}
+use Rattle.mask_parts.proofs.Inputs.{bits-inputs, IsReady-alone}
+use Rattle.mask_parts.proofs.Passing.{IsSound, IsReady, AreOf, AreOf-ready, Passes, Passes-trans, All-later}
+use Rattle.mask_parts.proofs.Ranges.{All-range}
+use Rattle.mask_parts.proofs.Solving.{Solves, Solves-all, Solved, Solved-Grows, Solved-with_gates}
+use Rattle.mask_parts.proofs.XorRows.{Passes-xors, All-xors, bits-xors}
 use Rattle.mask_trivium.specs.Clocks.{setup, stream, stage}
-use Rattle.mask_trivium.specs.NamedTrivium.{start, set_up, named_start, size_start, start_of_bits, given, streamed, xor_gates, encrypted, named_step, size_step, added, step_of_bits}
+use Rattle.mask_trivium.specs.NamedTrivium.{start, set_up, named_start, size_start, start_of_bits, given, streamed, encrypted, named_step, size_step, step_of_bits}
 use Rattle.mask_trivium.specs.Trivium.{loaded, clocks, outputs, started}
 use Rattle.mask_trivium.proofs.Clocking.{IsClock-setup, IsClock-stream}
-use Rattle.mask_trivium.proofs.Encrypting.{Passes-xors, All-xors, shown-xors}
-use Rattle.mask_trivium.proofs.Passing.{IsSound, IsReady, AreOf, AreOf-ready, Passes, Passes-trans, All-later}
 use Rattle.mask_trivium.proofs.Running.{length-outputs, Grows-clocks, Runs, Runs-clocks}
 use Rattle.mask_trivium.proofs.Shifting.{map-loaded}
-use Rattle.mask_trivium.proofs.Showing.{Solved, Solved-Grows, Solved-with_gates, shown, shown-clocks, shown-outputs}
-use Rattle.mask_trivium.proofs.Starting.{All-range, bits-inputs, IsReady-alone, IsFine-start, IsFine-given}
-
--- SIZES
-
-products-refs : (us : List ℕ) → count_by is_product (map Ref us) ≡ 0
-products-refs [] = refl
-products-refs (u ∷ us) = rw (sum_by-cons (λ (g : Gate). cond (is_product g) 1 0) (Ref u) (map Ref us), products-refs us) (omega arith)
-
-refreshes-refs : (us : List ℕ) → count_by is_refresh (map Ref us) ≡ length us
-refreshes-refs [] = refl
-refreshes-refs (u ∷ us) = rw (sum_by-cons (λ (g : Gate). cond (is_refresh g) 1 0) (Ref u) (map Ref us), refreshes-refs us) (omega arith)
-
--- sizes are equal by their parts
-same_size : (a b : Size) → a.inputs ≡ b.inputs → a.outputs ≡ b.outputs → a.products ≡ b.products → a.refreshes ≡ b.refreshes → a.values ≡ b.values → a ≡ b
-same_size a b i o p f v = λ t. record { inputs = i t; outputs = o t; products = p t; refreshes = f t; values = v t }
-
--- a draft without outputs that is fenced
-size-with_fence : (c : Netlist) (us : List ℕ) → c.outputs ≡ []
-    → size_of (with_fence c us) ≡ record {
-      inputs = c.inputs;
-      outputs = length us;
-      products = product_count c;
-      refreshes = refresh_count c + length us;
-      values = value_count c + length us;
-    }
-unfolding with_fence with_outputs size_of
-size-with_fence c us none =
-    same_size _ _ (inputs-with_gates c (map Ref us))
-    (rw (outputs-with_gates c (map Ref us), none) (length-range_with_len _ (length us)))
-    (product_count-with_gates c (map Ref us) ∙ rw (products-refs us) (omega arith))
-    (refresh_count-with_gates c (map Ref us) ∙ rw (refreshes-refs us) refl)
-    (value_count-with_gates c (map Ref us) ∙ rw (length-map us Ref) refl)
-
--- a circuit of a small size is within the limits
-IsWithinLimits-sized : (c : Netlist) (size : Size) → size_of c ≡ size → size.values ≤ 1_000_000 → size.outputs ≤ 1_000_000 → IsWithinLimits c
-unfolding size_of
-IsWithinLimits-sized c size is few few' = record { values = rw (ap (λ (s : Size). s.values) is) few; outputs = rw (ap (λ (s : Size). s.outputs) is) few' }
-
--- FENCES
-
--- a draft that hands out nothing yet, and values of it that may be handed out
-pub record IsDone (T : Type 0) (c : Netlist) (us : List ℕ) : Type 0 where
-  pub sound : IsSound T c
-  pub none : c.outputs ≡ []
-  pub ready : All (IsReady T c) us
-
-Grows-fence : (c : Netlist) (us : List ℕ) → Grows c (with_fence c us)
-unfolding with_fence
-Grows-fence c us = Grows-trans _ _ _ (Grows-with_gates c _) (Grows-with_outputs _ _)
-
-module _ (c : Netlist) (us : List ℕ) (done : IsDone Unit c us) where
-  known : AreOf c us
-  known = AreOf-ready Unit c us done.ready
-
-  pub IsStrong-done : IsStrong (with_fence c us)
-  IsStrong-done = IsStrong-tidy_fence c us done.sound.formed known done.none (done.sound.tidy tt)
-
-  plain-done : (x : List Bool) → length x ≡ c.inputs → plain (with_fence c us) x ≡ bits_of c x us
-  plain-done x long =
-      let none : plain c x ≡ [] = ap (map (value_at (plain_values c x))) done.none in
-      plain-with_fence c us done.sound.formed known x long (rw done.none (All-nil (λ u. u < value_count c))) ∙ rw none refl
-
-  -- behind a fence it meets the contract of a cipher's circuit
-  pub IsCipherCircuit-done : (size : Size) (f : List Bool → List Bool) → size_of (with_fence c us) ≡ size → IsWithinLimits (with_fence c us)
-      → ((x : List Bool) → length x ≡ c.inputs → bits_of c x us ≡ f x) → IsCipherCircuit (with_fence c us) size f (with_fence c us)
-  IsCipherCircuit-done size f sized limits computes =
-      let inputs : (with_fence c us).inputs ≡ c.inputs = unfold size_of in ap (λ (s : Size). s.inputs) (size-with_fence c us done.none) in
-      IsCipherCircuit-strong (with_fence c us) size f (with_fence c us) refl
-      (record { formed = IsWellFormed-fence c us done.sound.formed known done.none; few_values = limits.values; few_outputs = limits.outputs })
-      sized IsStrong-done (λ x long. plain-done x (long ∙ inputs) ∙ computes x (long ∙ inputs))
+use Rattle.mask_trivium.proofs.Showing.{shown, shown-clocks, shown-outputs}
+use Rattle.mask_trivium.proofs.Starting.{IsFine-start, IsFine-given}
 
 -- THE START
 
@@ -106,7 +41,7 @@ runs-start T = Runs-clocks T setup 15 _ IsClock-setup 1152 start (IsFine-start T
 pub done-start : (T : Type 0) → IsDone T set_up.draft set_up.state
 done-start T =
     let runs = runs-start T in
-    record { sound = runs.fine.sound; none = runs.passes.adds.outputs ∙ (unfold start stage with_gates in refl); ready = runs.fine.state }
+    record { sound = runs.fine.sound; none = runs.passes.adds.outputs ∙ (unfold start stage with_gates in refl); known = AreOf-ready T set_up.draft set_up.state runs.fine.state }
 
 -- the parts in which it is laid
 pub Grows-set_up : Grows start.draft set_up.draft
@@ -155,10 +90,6 @@ bits-set_up x long =
     shown-set_up vs solved
     ∙ ap (clocks 1152) (shown-start vs (Solved-Grows vs start.draft m Grows-set_up solved) ∙ ap₂ (loaded false true) key iv)
 
-pub IsStrong-named_start : IsStrong named_start
-unfolding named_start
-IsStrong-named_start = IsStrong-done set_up.draft set_up.state (done-start Unit)
-
 -- so it meets the contract of a cipher's circuit
 pub IsCipherCircuit-named_start : IsCipherCircuit named_start size_start start_of_bits named_start
 unfolding named_start
@@ -177,7 +108,7 @@ message = range_with_len 288 64
 abbrev pub results : List ℕ
 results = range_with_len (value_count streamed.draft) 64
 
-outputs-long : length streamed.outputs ≡ 64
+pub outputs-long : length streamed.outputs ≡ 64
 unfolding streamed given stage
 outputs-long = length-outputs stream 64 given
 
@@ -204,8 +135,9 @@ pub done-step : (T : Type 0) → IsDone T encrypted (streamed.state ++ results)
 done-step T = record {
   sound = (whole T).sound;
   none = (whole T).adds.outputs ∙ (unfold given stage in refl);
-  ready = All-append (IsReady T encrypted) streamed.state results (All-later T streamed.draft encrypted 64 0 streamed.state (passes-encrypted T) (runs-step T).fine.state)
-      (ready-results T);
+  known = AreOf-ready T encrypted (streamed.state ++ results)
+      (All-append (IsReady T encrypted) streamed.state results (All-later T streamed.draft encrypted 64 0 streamed.state (passes-encrypted T) (runs-step T).fine.state)
+      (ready-results T));
 }
 
 -- the parts in which it is laid
@@ -268,11 +200,7 @@ bits-encrypted x long =
     map-append (value_at vs) streamed.state results
     ∙ ap₂ ◌++◌ made.0
     (ap (λ (n : ℕ). shown vs (range_with_len (value_count streamed.draft) n)) (sym outputs-long)
-    ∙ shown-xors vs (value_count streamed.draft) streamed.outputs message outputs-long solved.1 ∙ ap₂ added made.1 text)
-
-pub IsStrong-named_step : IsStrong named_step
-unfolding named_step
-IsStrong-named_step = IsStrong-done encrypted (streamed.state ++ results) (done-step Unit)
+    ∙ bits-xors vs (value_count streamed.draft) streamed.outputs message outputs-long solved.1 ∙ ap₂ xor_bits made.1 text)
 
 pub IsCipherCircuit-named_step : IsCipherCircuit named_step size_step step_of_bits named_step
 unfolding named_step

@@ -2,9 +2,6 @@ pub mod Calling
 mod ClockExamples
 pub mod Clocking
 pub mod Concluding
-pub mod Counting
-pub mod Encrypting
-pub mod Passing
 pub mod Running
 pub mod Shifting
 pub mod Showing

@@ -6,9 +6,10 @@ use Rattle.mask_circuit.specs.Netlist.{Netlist, value_count}
 use Rattle.mask_parts.specs.Drafts.{Grows}
 use Rattle.mask_parts.specs.Tables.{is_part, with_part}
 use Rattle.mask_parts.proofs.Growing.{Grows-refl, Grows-trans, Grows-with_gates}
+use Rattle.mask_parts.proofs.Passing.{IsSound, IsReady, Passes, Passes-refl, Passes-trans, Passes-as, All-later, Passes-part, IsReady-part, All-ready-part}
+use Rattle.mask_parts.proofs.Turns.{RunsTo, Runs-trans, Runs-as, Runs-refl}
 use Rattle.mask_trivium.specs.Clocks.{Clock, Stage, with_clock, with_clocks}
 use Rattle.mask_trivium.proofs.Clocking.{IsClock}
-use Rattle.mask_trivium.proofs.Passing.{IsSound, IsReady, Passes, Passes-refl, Passes-trans, Passes-as, All-later, Passes-part, IsReady-part, All-ready-part}
 use Rattle.mask_trivium.proofs.Shifting.{length-shifted, All-shifted}
 
 -- LENGTHS
@@ -47,9 +48,8 @@ pub record IsFine (T : Type 0) (t : Stage) : Type 0 where
   pub outputs : All (IsReady T t.draft) t.outputs
 
 -- the stage u is fine too, and its draft has v values more, of which p are products and p refreshes
-pub record Runs (T : Type 0) (t u : Stage) (v p : ℕ) : Type 0 where
-  pub passes : Passes T t.draft u.draft v p
-  pub fine : IsFine T u
+abbrev pub Runs : (T : Type 0) (t u : Stage) (v p : ℕ) → Type 0
+Runs T t u v p = RunsTo T (λ (s : Stage). s.draft) (IsFine T) t u v p
 
 module _ (T : Type 0) (k : Clock) (v : ℕ) (out : List Bool → List Bool) (is : IsClock k v out) where
   pub Runs-clock : (t : Stage) → IsFine T t → Runs T t (with_clock k t) v 3
@@ -75,12 +75,9 @@ module _ (T : Type 0) (k : Clock) (v : ℕ) (out : List Bool → List Bool) (is 
 
   pub Runs-clocks : (n : ℕ) (t : Stage) → IsFine T t → Runs T t (with_clocks k n t) (n * v) (n * 3)
   unfolding with_clocks
-  Runs-clocks zero t fine = record { passes = Passes-as T t.draft t.draft 0 0 _ _ (omega arith) (omega arith) (Passes-refl T t.draft fine.sound); fine = fine }
+  Runs-clocks zero t fine =
+      Runs-as t t 0 0 _ _ (omega arith) (omega arith) (Runs-refl T (λ (s : Stage). s.draft) (IsFine T) (λ s is_fine. is_fine.sound) t fine)
   Runs-clocks (suc n) t fine =
       let one = Runs-clock t fine in
-      let more = Runs-clocks n (with_clock k t) one.fine in
-      record {
-        passes = Passes-as T _ _ _ _ _ _ (omega arith) (omega arith)
-            (Passes-trans T t.draft (with_clock k t).draft (with_clocks k n (with_clock k t)).draft v 3 (n * v) (n * 3) one.passes more.passes);
-        fine = more.fine;
-      }
+      Runs-as _ _ _ _ _ _ (omega arith) (omega arith)
+      (Runs-trans t (with_clock k t) (with_clocks k n (with_clock k t)) v 3 (n * v) (n * 3) one (Runs-clocks n (with_clock k t) one.fine))

@@ -1,8 +1,8 @@
--- What shifting and loading a state keep, whatever its places hold.
-use Rattle.std.proofs.Common.{◌≡◌, ℕ, zero, suc, List, ◌∷◌, length, map, take, replicate, set, All, refl, ap, ◌∙◌, arith}
+-- What shifting and loading a state keep, whatever its places hold; and clocks after clocks.
+use Rattle.std.proofs.Common.{◌≡◌, ℕ, zero, suc, ◌+◌, Bool, List, ◌∷◌, length, map, take, replicate, set, All, refl, ap, ◌∙◌, arith}
 use Rattle.std.proofs.lemmas.List.{length-set, length-take-le, map-set, map-append, take-map}
 use Rattle.std.proofs.lemmas.List.Elements.{All-append, All-cons, All-replicate, All-set, All-take}
-use Rattle.mask_trivium.specs.Trivium.{shifted, loaded}
+use Rattle.mask_trivium.specs.Trivium.{shifted, clocked, clocks, loaded}
 
 -- SHIFTING
 
@@ -26,6 +26,12 @@ map-shifted f a b c xs = map-at f a b c 287 93 177 xs
 
 pub shifted-same : {A : Type 0} (a b c d e f : A) (xs : List A) → a ≡ d → b ≡ e → c ≡ f → shifted a b c xs ≡ shifted d e f xs
 shifted-same a b c d e f xs first second third = rw (first, second, third) refl
+
+-- clocks after others
+pub clocks-add : (m n : ℕ) (state : List Bool) → clocks (m + n) state ≡ clocks n (clocks m state)
+unfolding clocks
+clocks-add zero n state = let e : 0 + n ≡ n = omega arith in rw e refl
+clocks-add (suc m) n state = let e : suc m + n ≡ suc (m + n) = omega arith in rw e (clocks-add m n (clocked state))
 
 -- LOADING
 

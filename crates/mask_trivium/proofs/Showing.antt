@@ -1,5 +1,6 @@
 -- What the values of a stage stand for: where bits solve all gates, the clocks on values compute the clocks on bits.
 use Rattle.std.proofs.Common.{◌≡◌, ℕ, zero, suc, ◌+◌, Bool, false, true, List, [], ◌∷◌, ◌++◌, length, map, replicate, drop, slice_index_or, refl, sym, ap, ap₂, ◌∙◌}
+use Rattle.std.proofs.lemmas.Bool.{and_parts}
 use Rattle.std.proofs.lemmas.List.{append_assoc, append-nil, map-append}
 use Rattle.std.proofs.lemmas.List.FromFn.{get_or-map-range_with_len}
 use Rattle.mask_circuit.specs.declared.gates.Gate.{Gate}
@@ -8,24 +9,13 @@ use Rattle.mask_circuit.specs.Value.{value_at}
 use Rattle.mask_parts.specs.Drafts.{with_gates, with_outputs, Grows}
 use Rattle.mask_parts.specs.Tables.{part_usable, part_bits, is_part, with_part}
 use Rattle.mask_parts.proofs.PartGates.{usable-within, part_bits-solved}
-use Rattle.mask_parts.proofs.Solving.{Solves, Solves-left, Solves-right}
+use Rattle.mask_parts.proofs.PartTidiness.{are_usable}
+use Rattle.mask_parts.proofs.Solving.{Solves, Solves-left, Solves-right, Solved, Solved-with_gates, Solved-Grows}
 use Rattle.mask_trivium.specs.Clocks.{Clock, Stage, stream, with_clock, with_clocks}
 use Rattle.mask_trivium.specs.Trivium.{clocked, clocks, outputs, output, next_first, next_second, next_third}
 use Rattle.mask_trivium.proofs.Clocking.{IsClock, IsClock-stream}
 use Rattle.mask_trivium.proofs.Running.{Grows-clocks, length-state}
 use Rattle.mask_trivium.proofs.Shifting.{map-shifted, shifted-same}
-
--- the bits vs solve all gates of the draft
-abbrev pub Solved : List Bool → Netlist → Type 0
-Solved vs c = Solves vs c.inputs c.gates
-
-pub Solved-with_gates : (vs : List Bool) (c : Netlist) (gs : List Gate) → Solved vs (with_gates c gs) → Solved vs c × Solves vs (value_count c) gs
-unfolding with_gates
-Solved-with_gates vs c gs solved = (Solves-left vs c.inputs c.gates gs solved, Solves-right vs c.inputs c.gates gs solved)
-
-pub Solved-Grows : (vs : List Bool) (c d : Netlist) → Grows c d → Solved vs d → Solved vs c
-unfolding with_outputs
-Solved-Grows vs c d grows solved = (Solved-with_gates vs c grows.gates (rw grows.grown at solved)).0
 
 -- the bits that values stand for
 abbrev pub shown : List Bool → List ℕ → List Bool
@@ -46,11 +36,11 @@ module _ (k : Clock) (v : ℕ) (out : List Bool → List Bool) (is : IsClock k v
       )
 
   -- so are several
-  all_made : (is : List ℕ) → map (value_at (part_usable k.steps)) is ≡ replicate (length is) true
+  all_made : (is : List ℕ) → are_usable (part_usable k.steps) is ≡ true
       → shown vs (map (λ i. value_count t.draft + i) is) ≡ map (value_at (part_bits (shown vs t.state) k.steps)) is
   all_made [] usable = refl
   all_made (i ∷ is) usable =
-      ap₂ ◌∷◌ (made i (ap (λ (bs : List Bool). slice_index_or bs 0 true) usable)) (all_made is (ap (λ (bs : List Bool). drop 1 bs) usable))
+      ap₂ ◌∷◌ (made i (and_parts _ _ usable).0) (all_made is (and_parts _ _ usable).1)
 
   pub shown-clock : shown vs (with_clock k t).state ≡ clocked (shown vs t.state)
   unfolding with_clock clocked

@@ -1,5 +1,5 @@
 -- The stages that the clocks begin with: they are whole, and their values are the input bits.
-use Rattle.std.proofs.Common.{◌≡◌, ℕ, zero, suc, ◌+◌, ◌<◌, ◌≤◌, Bool, false, Some, List, [], ◌∷◌, length, map, take, drop, All, refl, ap₂, subst, arith}
+use Rattle.std.proofs.Common.{◌≡◌, ℕ, zero, suc, ◌+◌, ◌<◌, ◌≤◌, Bool, false, Some, List, [], ◌∷◌, length, map, take, drop, All, refl, ap₂, subst, arith, lit≤}
 use Rattle.std.specs.List.{range_with_len}
 use Rattle.std.proofs.lemmas.List.{drop_more}
 use Rattle.std.proofs.lemmas.List.Elements.{All-nil, All-cons}
@@ -11,82 +11,15 @@ use Rattle.mask_circuit.specs.Acceptance.{gate_at, IsTidy}
 use Rattle.mask_circuit.proofs.GateAt.{gate_at_within}
 use Rattle.mask_parts.specs.Drafts.{with_gates}
 use Rattle.mask_parts.specs.Tidiness.{IsFree, KeepsTidy}
+use Rattle.mask_parts.proofs.Inputs.{IsSound-inputs, All-inputs, IsSound-constants, IsReady-input, IsReady-nought, IsReady-one}
 use Rattle.mask_parts.proofs.Layering.{TakesFree, KeepsTidy-layer}
+use Rattle.mask_parts.proofs.Passing.{IsSound, IsReady}
+use Rattle.mask_parts.proofs.Ranges.{All-range}
 use Rattle.mask_parts.proofs.Solving.{values_from-keeps}
 use Rattle.mask_trivium.specs.Clocks.{stage}
 use Rattle.mask_trivium.specs.NamedTrivium.{start, given}
-use Rattle.mask_trivium.proofs.Passing.{IsSound, IsReady}
 use Rattle.mask_trivium.proofs.Running.{IsFine}
 use Rattle.mask_trivium.proofs.Shifting.{All-loaded}
-
--- ROWS OF VALUES
-
-pub All-range : (P : ℕ → Type 0) (n k : ℕ) → ((u : ℕ) → n ≤ u → u < n + k → P u) → All P (range_with_len n k)
-All-range P n zero new = All-nil P
-All-range P n (suc k) new =
-    All-cons P n (range_with_len (n + 1) k) (new n (omega arith) (omega arith)) (All-range P (n + 1) k (λ u low high. new u (omega arith) (omega arith)))
-
--- the bits of inputs in a row
-pub bits-inputs : (c : Netlist) (x : List Bool) (a k : ℕ) → a + k ≤ length x → map (value_at (plain_values c x)) (range_with_len a k) ≡ take k (drop a x)
-bits-inputs c x a zero within = refl
-bits-inputs c x a (suc k) within =
-    rw (drop_more x a false (omega arith))
-    (ap₂ ◌∷◌ (values_from-keeps c.gates x a (omega arith)) (bits-inputs c x (a + 1) k (omega arith)))
-
--- INPUTS ALONE, AND THE TWO CONSTANTS
-
-module _ (n : ℕ) where
-  abbrev inputs : Netlist
-  inputs = only_inputs n
-
-  abbrev constants : List Gate
-  constants = Zero ∷ (One ∷ [])
-
-  no_gate : (p : ℕ) (g : Gate) → gate_at inputs p ≡ Some g → ⊥
-  no_gate p g is = let within = gate_at_within inputs p g is in omega arith
-
-  IsTidy-inputs : IsTidy inputs
-  IsTidy-inputs = record {
-    refreshed = λ p u v is. absurd (no_gate p _ is);
-    apart = λ p u v is. absurd (no_gate p _ is);
-    alone = λ p u v q is. absurd (no_gate p _ is);
-  }
-
-  pub IsSound-inputs : (T : Type 0) → IsSound T inputs
-  IsSound-inputs T = record { formed = tt; tidy = λ t. IsTidy-inputs }
-
-  pub IsReady-alone : (T : Type 0) (u : ℕ) → u < n → IsReady T inputs u
-  IsReady-alone T u low = record { below = omega arith; free = λ t p v is. no_gate p _ is }
-
-  keeps : KeepsTidy inputs (with_gates inputs constants) (range_with_len (n + 0) 2)
-  keeps =
-      KeepsTidy-layer inputs constants tt IsTidy-inputs
-      (All-cons (TakesFree inputs) Zero (One ∷ []) (record { other = refl; taken = λ u uses. absurd uses })
-      (All-cons (TakesFree inputs) One [] (record { other = refl; taken = λ u uses. absurd uses }) (All-nil (TakesFree inputs))))
-
-  pub IsSound-constants : (T : Type 0) → IsSound T (with_gates inputs constants)
-  IsSound-constants T = record { formed = (unfold with_gates in (tt, (tt, tt))); tidy = λ t. keeps.tidy }
-
-  count : value_count (with_gates inputs constants) ≡ n + 2
-  unfolding with_gates
-  count = refl
-
-  pub IsReady-input : (T : Type 0) (u : ℕ) → u < n → IsReady T (with_gates inputs constants) u
-  IsReady-input T u low = record { below = (let e = count in omega arith); free = λ t. keeps.still_free u (omega arith) (λ p v is. no_gate p _ is) }
-
-  pub IsReady-nought : (T : Type 0) → IsReady T (with_gates inputs constants) n
-  IsReady-nought T = record {
-    below = (let e = count in omega arith);
-    free = λ t. (let e : n + 0 ≡ n = omega arith in subst (IsFree (with_gates inputs constants)) e (keeps.results_free 0 0 (omega arith)));
-  }
-
-  pub IsReady-one : (T : Type 0) → IsReady T (with_gates inputs constants) (n + 1)
-  IsReady-one T = record {
-    below = (let e = count in omega arith);
-    free = λ t. (let e : n + 0 + 1 ≡ n + 1 = omega arith in subst (IsFree (with_gates inputs constants)) e (keeps.results_free 1 0 (omega arith)));
-  }
-
--- THE TWO STAGES
 
 pub IsFine-start : (T : Type 0) → IsFine T start
 unfolding start stage
@@ -106,6 +39,6 @@ unfolding given stage
 IsFine-given T = record {
   sound = IsSound-inputs 352 T;
   long = refl;
-  state = All-range (IsReady T (only_inputs 352)) 0 288 (λ u low high. IsReady-alone 352 T u (omega arith));
+  state = All-inputs 352 T 0 288 (lit≤ tt);
   outputs = All-nil (IsReady T (only_inputs 352));
 }

@@ -6,12 +6,7 @@
 use Rattle.std.proofs.Common.{◌≡◌, ℕ, zero, suc, ◌+◌, Bool, false, true, List, [], ◌∷◌, replicate, refl, ap, ◌∙◌, arith}
 use Rattle.mask_bits.specs.Reading.{lowest, low}
 use Rattle.mask_trivium.specs.Trivium.{loaded, clocked, clocks, outputs, started, bytes, keystream}
-
--- clocks after others
-clocks-add : (m n : ℕ) (state : List Bool) → clocks (m + n) state ≡ clocks n (clocks m state)
-unfolding clocks
-clocks-add zero n state = let e : 0 + n ≡ n = omega arith in rw e refl
-clocks-add (suc m) n state = let e : suc m + n ≡ suc (m + n) = omega arith in rw e (clocks-add m n (clocked state))
+use Rattle.mask_trivium.proofs.Shifting.{clocks-add}
 
 -- four parts are all
 quarters : (a b c d e : List Bool) → clocks 288 a ≡ b → clocks 288 b ≡ c → clocks 288 c ≡ d → clocks 288 d ≡ e → clocks 1152 a ≡ e

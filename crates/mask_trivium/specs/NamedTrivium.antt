@@ -1,14 +1,14 @@
 -- The circuits of Trivium.
 use Rattle.std.specs.Prelude.{ℕ, Bool, List, [], ◌∷◌, ◌++◌, take, drop}
 use Rattle.std.specs.List.{range_with_len}
-use Rattle.mask_circuit.specs.declared.gates.Gate.{Gate}
-use Rattle.mask_circuit.specs.declared.gates.Gate.TheVariants.{Zero, One, Xor}
+use Rattle.mask_circuit.specs.declared.gates.Gate.TheVariants.{Zero, One}
 use Rattle.mask_circuit.specs.Netlist.{Netlist, value_count, only_inputs}
 use Rattle.mask_parts.specs.CipherCircuits.{Size}
 use Rattle.mask_parts.specs.Drafts.{with_gates}
 use Rattle.mask_parts.specs.Fences.{with_fence}
+use Rattle.mask_parts.specs.Rows.{xor_gates, xor_bits}
 use Rattle.mask_trivium.specs.Clocks.{Stage, stage, setup, stream, with_clocks}
-use Rattle.mask_trivium.specs.Trivium.{◌⊕◌, loaded, started, clocks, outputs}
+use Rattle.mask_trivium.specs.Trivium.{loaded, started, clocks, outputs}
 
 -- THE START
 
@@ -42,11 +42,6 @@ given = stage (only_inputs 352) (range_with_len 0 288) []
 unfoldable pub streamed : Stage
 streamed = with_clocks stream 64 given
 
--- a gate for each pair of these values
-unfoldable pub xor_gates : List ℕ → List ℕ → List Gate
-xor_gates (u ∷ us) (v ∷ vs) = Xor u v ∷ xor_gates us vs
-xor_gates us vs = []
-
 -- the values that are output, xored with those of the message
 unfoldable pub encrypted : Netlist
 encrypted = with_gates streamed.draft (xor_gates streamed.outputs (range_with_len 288 64))
@@ -58,13 +53,8 @@ named_step = with_fence encrypted (streamed.state ++ range_with_len (value_count
 abbrev pub size_step : Size
 size_step = record { inputs = 352; outputs = 352; products = 192; refreshes = 544; values = 1_856 }
 
--- the bits of a message each added to one of these bits
-unfoldable pub added : List Bool → List Bool → List Bool
-added (a ∷ bits) (b ∷ more) = (a ⊕ b) ∷ added bits more
-added bits more = []
-
--- what it computes of its input bits: the state after 64 clocks, and then the message added to what they output
+-- what it computes of its input bits: the state after 64 clocks, and then the message xored with what they output
 unfoldable pub step_of_bits : List Bool → List Bool
 step_of_bits x =
     let state = take 288 x in
-    clocks 64 state ++ added (outputs 64 state) (drop 288 x)
+    clocks 64 state ++ xor_bits (outputs 64 state) (drop 288 x)

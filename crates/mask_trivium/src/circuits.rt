@@ -6,27 +6,18 @@ ghost use Rattle.mask_circuit.specs.Netlist.{value_count, only_inputs};
 ghost use Rattle.mask_check.specs.Costs.{most_steps};
 ghost use Rattle.mask_parts.specs.CipherCircuits.{IsCipherCircuit};
 ghost use Rattle.mask_parts.specs.Drafts.{with_gates, Lays};
+ghost use Rattle.mask_parts.specs.Rows.{xor_gates};
 ghost use Rattle.mask_trivium.specs.Clocks.{setup, stream};
-ghost use Rattle.mask_trivium.specs.NamedTrivium.{start, xor_gates, named_start, size_start, start_of_bits, named_step, size_step, step_of_bits};
+ghost use Rattle.mask_trivium.specs.NamedTrivium.{start, named_start, size_start, start_of_bits, named_step, size_step, step_of_bits};
 ghost use Rattle.mask_trivium.specs.Trivium.{loaded};
 
 use crate::clock::State;
 use crate::clocks::{lay_setup, lay_stream};
 use mask_check::Strong;
 use mask_circuit::{Builder, Circuit, CircuitError, Steps};
-use mask_parts::{fence_outputs, strong_circuit};
+use mask_parts::{fence_outputs, number_from, strong_circuit, xor_all};
 use std::alloc::{AllocError, Global};
 use std::sync::ledger::Ledger;
-
-// Numbers the places, from `first` on.
-fn number_from(places: &mut [u32], first: u32)
-    requires { first + length places.old ≤ 2 ^ 32 }
-    ensures { places.new ≡ range_with_len first (length places.old) }
-{
-    for (k, place) in places.iter_mut().enumerate() {
-        *place = first + k as u32;
-    }
-}
 
 // The state before the first clock. The key is the first inputs, and the IV the next.
 fn load(zero: u32, one: u32) -> State
@@ -58,19 +49,6 @@ fn lay_start(b: &mut Builder) -> Result<(), CircuitError>
     let mut state = lay_constants(b)?;
     lay_setup(b, &mut state)?;
     fence_outputs(b, &state)
-}
-
-// Lays the XOR of each of these values with the one of the same number among the others.
-fn xor_all(b: &mut Builder, us: &[u32; 64], vs: &[u32; 64]) -> Result<(), CircuitError>
-    requires us_known { All (λ u. u < value_count b.old) us.now }
-    requires vs_known { All (λ u. u < value_count b.old) vs.now }
-    ensures { Lays b.old (with_gates b.old (xor_gates us.now vs.now)) tt b.new result }
-{
-    let _values = b.values();
-    for k in 0..64 {
-        b.xor(us[k], vs[k])?;
-    }
-    Ok(())
 }
 
 // The values of a state, and then 64 values in a row.

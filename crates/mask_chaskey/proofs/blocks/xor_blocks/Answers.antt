@@ -1,15 +1,18 @@
 use Rattle.std.proofs.Common.{◌≡◌, ℕ, ◌+◌, ◌<◌, ◌≤◌, List, length, refl, arith, slice_set}
 use Rattle.mask_circuit.specs.Netlist.{Netlist, IsCircuit, value_count}
 use Rattle.mask_parts.specs.Drafts.{Grows, IsWithinLimits}
-use Rattle.mask_parts.specs.Words32.{with_xor32, xor32_results}
+use Rattle.mask_parts.specs.Words32.{with_xor32, xor32_results, word, AreWordsOf}
 use Rattle.mask_parts.proofs.Laying.{IsWithinLimits-circuit, IsRefused-within}
-use Rattle.mask_chaskey.specs.Rounds.{stage, word, with_word_xored, with_block_xored, AreWordsOf}
-use Rattle.mask_chaskey.proofs.Calling.{AreOf-Grows, AreOf-word, words-known, IsFine-known, known-fine, HasRun, HasRun-none, HasRun-more, HasRun-done, begun-run, left-run}
+use Rattle.mask_parts.proofs.Passing.{AreOf-Grows}
+use Rattle.mask_parts.proofs.Turns.{HasRun, HasRun-none, HasRun-more, begun-run, left-run}
+use Rattle.mask_parts.proofs.WordPassing.{AreOf-word, words-known}
+use Rattle.mask_chaskey.specs.Rounds.{Stage, stage, with_word_xored, with_block_xored}
+use Rattle.mask_chaskey.proofs.Calling.{IsFine-known, known-fine, HasRun-done}
 use Rattle.mask_chaskey.proofs.Lengthening.{Lengthens-word_xored}
 use Rattle.mask_chaskey.proofs.Running.{Runs-words_xored}
 use Rattle.mask_chaskey.proofs.blocks.xor_blocks.Goals as goal
 
-module _ (b c : Netlist) (xs ys us : List (List ℕ)) (k : ℕ) (has : HasRun (with_word_xored ys) (stage b xs) (stage c us) k) where
+module _ (b c : Netlist) (xs ys us : List (List ℕ)) (k : ℕ) (has : HasRun (λ (s : Stage). s.draft) (with_word_xored ys) (stage b xs) (stage c us) k) where
   -- the words so far are four of the draft's
   known : IsCircuit b → k ≤ 4 → length xs ≡ 4 → length ys ≡ 4 → AreWordsOf b xs → AreWordsOf b ys → (length us ≡ 4) × AreWordsOf c us
   known circuit few x_long y_long x_known y_known =
@@ -24,7 +27,7 @@ module _ (b c : Netlist) (xs ys us : List (List ℕ)) (k : ℕ) (has : HasRun (w
   left inside = left-run (with_word_xored ys) (Lengthens-word_xored ys) (stage b xs) (stage c us) k 4 has inside
 
   stepped : (d : Netlist) (w : List ℕ) → w ≡ xor32_results (value_count c) → d ≡ with_xor32 c (word us k) (word ys k) → IsWithinLimits (with_xor32 c (word us k) (word ys k))
-      → HasRun (with_word_xored ys) (stage b xs) (stage d (slice_set us k w)) (k + 1)
+      → HasRun (λ (s : Stage). s.draft) (with_word_xored ys) (stage b xs) (stage d (slice_set us k w)) (k + 1)
   unfolding stage with_word_xored
   stepped d w is draft within = HasRun-more (with_word_xored ys) (stage b xs) (stage c us) _ k has (rw (is, draft) refl) (rw draft within)
 

@@ -3,10 +3,11 @@ use Rattle.mask_circuit.specs.Netlist.{Netlist, only_inputs}
 use Rattle.mask_parts.specs.Drafts.{Grows}
 use Rattle.mask_parts.proofs.Growing.{Grows-refl, Grows-trans}
 use Rattle.mask_parts.proofs.Laying.{Lays-exit, Lays-last}
+use Rattle.mask_parts.proofs.WordPassing.{known-words}
 use Rattle.mask_chaskey.specs.declared.doubling.End.{End}
 use Rattle.mask_chaskey.specs.NamedChaskey.{block_from, end_stage, fenced, named_end}
 use Rattle.mask_chaskey.specs.Rounds.{Stage, stage}
-use Rattle.mask_chaskey.proofs.Calling.{known-words, stage-is}
+use Rattle.mask_chaskey.proofs.Calling.{stage-is}
 use Rattle.mask_chaskey.proofs.Concluding.{Grows-fenced, known-us, end_key, end_mask, end_start, end_xored, end_masked, end_permuted, inputs_later, mask_later, Runs-end_xored, Runs-end_masked, Runs-end_permuted, CameOut-end, left-mask, left-xored, left-masked, left-permuted}
 use Rattle.mask_chaskey.proofs.Lengthening.{Lengthens, Lengthens-block_xored, Lengthens-permutation, Lengthens-last_mask}
 use Rattle.mask_chaskey.proofs.Starting.{words-block_from}

@@ -3,9 +3,10 @@ use Rattle.mask_circuit.specs.Netlist.{Netlist, only_inputs}
 use Rattle.mask_parts.specs.Drafts.{Grows}
 use Rattle.mask_parts.proofs.Growing.{Grows-refl, Grows-trans}
 use Rattle.mask_parts.proofs.Laying.{Lays-exit, Lays-last}
+use Rattle.mask_parts.proofs.WordPassing.{known-words}
 use Rattle.mask_chaskey.specs.NamedChaskey.{block_from, step_stage, fenced, named_step}
 use Rattle.mask_chaskey.specs.Rounds.{stage}
-use Rattle.mask_chaskey.proofs.Calling.{known-words, stage-is}
+use Rattle.mask_chaskey.proofs.Calling.{stage-is}
 use Rattle.mask_chaskey.proofs.Concluding.{Grows-fenced, known-us, step_start, step_xored, CameOut-step, Runs-step_xored}
 use Rattle.mask_chaskey.proofs.Lengthening.{Lengthens-block_xored, Lengthens-permutation}
 use Rattle.mask_chaskey.proofs.Starting.{words-block_from}

@@ -5,13 +5,14 @@ use Rattle.mask_circuit.specs.Netlist.{Netlist, value_count}
 use Rattle.mask_parts.specs.declared.tables.Step.{Step}
 use Rattle.mask_parts.specs.Tables.{part_gates, with_part}
 use Rattle.mask_parts.specs.Drafts.{IsWithinLimits}
+use Rattle.mask_parts.specs.Words32.{AreWordsOf}
 use Rattle.mask_parts.proofs.Growing.{value_count-with_gates, Grows-refl}
 use Rattle.mask_parts.proofs.Laying.{Lays-exit}
+use Rattle.mask_parts.proofs.Passing.{AreOf, IsReady}
+use Rattle.mask_parts.proofs.WordPassing.{words-known}
 use Rattle.mask_chaskey.specs.NamedChaskey.{four_words, doubling_steps, doubled_values, with_doubled}
-use Rattle.mask_chaskey.specs.Rounds.{stage, AreWordsOf}
+use Rattle.mask_chaskey.specs.Rounds.{stage}
 use Rattle.mask_chaskey.proofs.BlockNumbers.{length-concat, All-concat}
-use Rattle.mask_chaskey.proofs.Calling.{AreOf, words-known}
-use Rattle.mask_chaskey.proofs.Passing.{IsReady}
 use Rattle.mask_chaskey.proofs.doubling.double.Goals as goal
 
 module _ (b : Netlist) (ws : List (List ℕ)) (four : length ws ≡ 4) (known : AreWordsOf b ws) where

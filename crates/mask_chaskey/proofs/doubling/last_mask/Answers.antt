@@ -1,13 +1,15 @@
 use Rattle.std.proofs.Common.{◌≡◌, ℕ, List, length, refl}
 use Rattle.mask_circuit.specs.Netlist.{Netlist, IsCircuit}
 use Rattle.mask_parts.specs.Drafts.{Grows}
+use Rattle.mask_parts.specs.Words32.{AreWordsOf}
 use Rattle.mask_parts.proofs.Growing.{Grows-refl}
 use Rattle.mask_parts.proofs.Laying.{Lays-exit, Lays-last}
+use Rattle.mask_parts.proofs.WordPassing.{known-words}
 use Rattle.mask_chaskey.specs.declared.doubling.End.{End}
 use Rattle.mask_chaskey.specs.declared.doubling.End.TheVariants.{Whole, Short}
 use Rattle.mask_chaskey.specs.NamedChaskey.{with_doubled, with_last_mask}
-use Rattle.mask_chaskey.specs.Rounds.{Stage, stage, AreWordsOf}
-use Rattle.mask_chaskey.proofs.Calling.{known-words, IsFine-known, stage-is}
+use Rattle.mask_chaskey.specs.Rounds.{Stage, stage}
+use Rattle.mask_chaskey.proofs.Calling.{IsFine-known, stage-is}
 use Rattle.mask_chaskey.proofs.Lengthening.{Lengthens, Lengthens-doubled}
 use Rattle.mask_chaskey.proofs.Running.{Runs-doubled}
 use Rattle.mask_chaskey.proofs.doubling.last_mask.Goals as goal

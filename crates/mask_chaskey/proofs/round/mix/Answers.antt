@@ -1,12 +1,12 @@
 use Rattle.std.proofs.Common.{◌≡◌, ℕ, ◌+◌, ◌<◌, List, ap, ap₂, ◌∙◌, slice_set}
 use Rattle.mask_circuit.specs.Netlist.{Netlist, value_count}
-use Rattle.mask_parts.specs.Words32.{with_sum32, xor32_results}
+use Rattle.mask_parts.specs.Words32.{with_sum32, xor32_results, word}
 use Rattle.mask_parts.proofs.Growing.{Grows-refl}
 use Rattle.mask_parts.proofs.Laying.{Lays-exit}
+use Rattle.mask_parts.proofs.Passing.{AreOf-Grows}
 use Rattle.mask_parts.proofs.WordFitting.{value_count-with_sum32, All-rotated32}
-use Rattle.mask_chaskey.specs.Rounds.{stage, word, with_mixed}
-use Rattle.mask_chaskey.proofs.Calling.{AreOf-Grows, AreOf-sum32, AreOf-word}
-use Rattle.mask_chaskey.proofs.Lengthening.{Grows-xor32, Grows-sum32}
+use Rattle.mask_parts.proofs.WordPassing.{AreOf-word, Grows-xor32, Grows-sum32, AreOf-sum32}
+use Rattle.mask_chaskey.specs.Rounds.{stage, with_mixed}
 use Rattle.mask_chaskey.proofs.round.mix.Goals as goal
 
 -- the draft with the sum

@@ -1,10 +1,12 @@
 use Rattle.std.proofs.Common.{◌≡◌, ℕ, List, length, ap, ◌∙◌}
 use Rattle.mask_circuit.specs.Netlist.{Netlist, IsCircuit}
 use Rattle.mask_parts.specs.Drafts.{Grows}
+use Rattle.mask_parts.specs.Words32.{AreWordsOf}
 use Rattle.mask_parts.proofs.Growing.{Grows-refl}
 use Rattle.mask_parts.proofs.Laying.{Lays-exit}
-use Rattle.mask_chaskey.specs.Rounds.{Stage, stage, turned_block, with_mixed, with_turned, with_round, AreWordsOf}
-use Rattle.mask_chaskey.proofs.Calling.{known-words, IsFine-known, stage-is}
+use Rattle.mask_parts.proofs.WordPassing.{known-words}
+use Rattle.mask_chaskey.specs.Rounds.{Stage, stage, turned_block, with_mixed, with_turned, with_round}
+use Rattle.mask_chaskey.proofs.Calling.{IsFine-known, stage-is}
 use Rattle.mask_chaskey.proofs.Lengthening.{first_mixed, second_mixed, third_mixed, last_mixed, Lengthens-turned, Lengthens-trans, Lengthens-first, Lengthens-second, Lengthens-third, Lengthens-last, Lengthens-after_first, Lengthens-after_second, Lengthens-after_third}
 use Rattle.mask_chaskey.proofs.Running.{IsFine, Runs-first, Runs-second, Runs-third}
 use Rattle.mask_chaskey.proofs.round.round.Goals as goal

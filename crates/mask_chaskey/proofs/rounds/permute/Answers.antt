@@ -1,14 +1,16 @@
 use Rattle.std.proofs.Common.{◌≡◌, ℕ, ◌+◌, ◌<◌, List, length, arith}
 use Rattle.mask_circuit.specs.Netlist.{Netlist, IsCircuit}
 use Rattle.mask_parts.specs.Drafts.{Grows, IsWithinLimits}
+use Rattle.mask_parts.specs.Words32.{AreWordsOf}
 use Rattle.mask_parts.proofs.Laying.{IsWithinLimits-circuit, IsRefused-within}
-use Rattle.mask_chaskey.specs.Rounds.{stage, with_round, with_permutation, AreWordsOf}
-use Rattle.mask_chaskey.proofs.Calling.{IsFine-known, known-fine, stage-is, HasRun, HasRun-none, HasRun-more, HasRun-done, begun-run, left-run}
+use Rattle.mask_parts.proofs.Turns.{HasRun, HasRun-none, HasRun-more, begun-run, left-run}
+use Rattle.mask_chaskey.specs.Rounds.{Stage, stage, with_round, with_permutation}
+use Rattle.mask_chaskey.proofs.Calling.{IsFine-known, known-fine, stage-is, HasRun-done}
 use Rattle.mask_chaskey.proofs.Lengthening.{Lengthens-round}
 use Rattle.mask_chaskey.proofs.Running.{Runs-rounds}
 use Rattle.mask_chaskey.proofs.rounds.permute.Goals as goal
 
-module _ (b c : Netlist) (xs us : List (List ℕ)) (k : ℕ) (has : HasRun (λ i. with_round) (stage b xs) (stage c us) k) where
+module _ (b c : Netlist) (xs us : List (List ℕ)) (k : ℕ) (has : HasRun (λ (s : Stage). s.draft) (λ i. with_round) (stage b xs) (stage c us) k) where
   -- the words so far are four of the draft's
   known : IsCircuit b → length xs ≡ 4 → AreWordsOf b xs → (length us ≡ 4) × AreWordsOf c us
   known circuit long x_known = known-fine c us (rw has.is (Runs-rounds ⊥ (stage b xs) (IsFine-known b xs circuit.formed.gates long x_known) k).fine)
@@ -22,7 +24,7 @@ module _ (b c : Netlist) (xs us : List (List ℕ)) (k : ℕ) (has : HasRun (λ i
   left inside = left-run (λ i. with_round) (λ i. Lengthens-round) (stage b xs) (stage c us) k 12 has inside
 
   stepped : (d : Netlist) (vs : List (List ℕ)) → vs ≡ (with_round (stage c us)).block → d ≡ (with_round (stage c us)).draft → IsWithinLimits (with_round (stage c us)).draft
-      → HasRun (λ i. with_round) (stage b xs) (stage d vs) (k + 1)
+      → HasRun (λ (s : Stage). s.draft) (λ i. with_round) (stage b xs) (stage d vs) (k + 1)
   stepped d vs block draft within =
       let is = stage-is d vs (with_round (stage c us)) block draft in
       HasRun-more (λ i. with_round) (stage b xs) (stage c us) (stage d vs) k has is (rw is within)

@@ -4,10 +4,10 @@ use Rattle.mask_circuit.specs.Netlist.{Netlist, value_count}
 use Rattle.mask_tasks.specs.declared.sizes.LeaSize.{LeaSize}
 use Rattle.mask_parts.proofs.Growing.{Grows-refl, Grows-trans}
 use Rattle.mask_parts.proofs.Laying.{Lays-exit, Lays-last}
+use Rattle.mask_parts.proofs.WordPassing.{known-words}
 use Rattle.mask_lea.specs.Lea.{schedule}
 use Rattle.mask_lea.specs.NamedLea.{start, encrypted_message, named_of, named_lea}
 use Rattle.mask_lea.specs.Rounds.{Stage, with_rounds}
-use Rattle.mask_lea.proofs.Calling.{known-words}
 use Rattle.mask_lea.proofs.Concluding.{begun-end, left, All-messages, known-sums, runs, Grows-named}
 use Rattle.mask_lea.proofs.Running.{IsShape-schedule}
 use Rattle.mask_lea.proofs.circuits.lay_on.Goals as goal
@@ -28,8 +28,8 @@ xor_blocks-requires c =
     let r = schedule c.args.size in let shape = IsShape-schedule c.args.size in
     let laid = c.in_ok-encrypted.ensures in
     record {
-      xs_known = rw (laid.1, laid.0) (known-words _ _ (runs r shape ⊥).fine.block);
-      ys_known = rw (laid.1, c.requires.third) (known-words _ _ (All-messages r shape ⊥));
+      xs_known = rw (laid.1, laid.0) (known-words ⊥ _ _ (runs r shape ⊥).fine.block);
+      ys_known = rw (laid.1, c.requires.third) (known-words ⊥ _ _ (All-messages r shape ⊥));
     }
 
 pub returns-in_err-xor_blocks : goal.returns-in_err-xor_blocks

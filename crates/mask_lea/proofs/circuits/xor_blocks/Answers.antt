@@ -2,13 +2,12 @@ use Rattle.std.proofs.Common.{◌≡◌, ℕ, ◌+◌, ◌<◌, List, [], length
 use Rattle.std.proofs.lemmas.List.{drop_more, drop_all}
 use Rattle.mask_circuit.specs.Netlist.{Netlist}
 use Rattle.mask_parts.specs.Drafts.{Grows, IsWithinLimits}
-use Rattle.mask_parts.specs.Words32.{with_xor32}
+use Rattle.mask_parts.specs.Words32.{with_xor32, word}
 use Rattle.mask_parts.proofs.Laying.{IsWithinLimits-circuit, IsUnderWay-first, IsUnderWay-more, IsUnderWay-exit, IsUnderWay-done}
+use Rattle.mask_parts.proofs.Passing.{AreOf-Grows}
+use Rattle.mask_parts.proofs.WordPassing.{AreOf-word, Grows-xor32}
 use Rattle.mask_lea.specs.NamedLea.{with_blocks_xored}
-use Rattle.mask_lea.specs.Rounds.{word}
-use Rattle.mask_lea.proofs.Calling.{AreOf-Grows, AreOf-word}
 use Rattle.mask_lea.proofs.Blocks.{Grows-blocks_xored}
-use Rattle.mask_lea.proofs.Lengthening.{Grows-xor32}
 use Rattle.mask_lea.proofs.circuits.xor_blocks.Goals as goal
 
 -- the next words come first of those that are left

@@ -1,11 +1,12 @@
 use Rattle.std.proofs.Common.{◌≡◌, ℕ, ◌+◌, ◌<◌, List, ◌∷◌, length, refl, ap, ap₂, ◌∙◌, arith, lit<}
 use Rattle.mask_circuit.specs.Netlist.{Netlist, value_count}
 use Rattle.mask_parts.specs.Drafts.{Grows}
-use Rattle.mask_parts.specs.Words32.{rotated32}
+use Rattle.mask_parts.specs.Words32.{rotated32, word, AreWordsOf}
 use Rattle.mask_parts.proofs.Growing.{Grows-refl, Grows-trans}
 use Rattle.mask_parts.proofs.Laying.{Lays-exit}
-use Rattle.mask_lea.specs.Rounds.{stage, word, AreWordsOf, with_mixed, with_block_mixed}
-use Rattle.mask_lea.proofs.Calling.{AreOf, AreOf-Grows, AreOf-word}
+use Rattle.mask_parts.proofs.Passing.{AreOf, AreOf-Grows}
+use Rattle.mask_parts.proofs.WordPassing.{AreOf-word}
+use Rattle.mask_lea.specs.Rounds.{stage, with_mixed, with_block_mixed}
 use Rattle.mask_lea.proofs.Lengthening.{count-with_mixed, Grows-mixed}
 use Rattle.mask_lea.proofs.round.mix_block.Goals as goal
 

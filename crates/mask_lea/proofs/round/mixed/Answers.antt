@@ -3,10 +3,10 @@ use Rattle.mask_circuit.specs.Netlist.{value_count}
 use Rattle.mask_parts.specs.Words32.{with_xor32, xor32_results, sum32_results}
 use Rattle.mask_parts.proofs.Growing.{Grows-refl, Grows-trans}
 use Rattle.mask_parts.proofs.Laying.{Lays-exit, Lays-last}
+use Rattle.mask_parts.proofs.Passing.{AreOf-Grows}
 use Rattle.mask_parts.proofs.WordFitting.{value_count-with_xor32}
+use Rattle.mask_parts.proofs.WordPassing.{Grows-xor32, Grows-sum32, AreOf-xor32}
 use Rattle.mask_lea.specs.Rounds.{with_mixed, mixed_results}
-use Rattle.mask_lea.proofs.Calling.{AreOf-Grows, AreOf-xor32}
-use Rattle.mask_lea.proofs.Lengthening.{Grows-xor32, Grows-sum32}
 use Rattle.mask_lea.proofs.round.mixed.Goals as goal
 
 pub returns-in_err-left : goal.returns-in_err-left

@@ -2,17 +2,19 @@ use Rattle.std.proofs.Common.{◌≡◌, ℕ, List, ap, ◌∙◌, subst, arith}
 use Rattle.mask_circuit.specs.Netlist.{Netlist, IsCircuit}
 use Rattle.mask_tasks.specs.declared.sizes.LeaSize.{LeaSize}
 use Rattle.mask_parts.specs.Drafts.{IsWithinLimits}
+use Rattle.mask_parts.specs.Turns.{in_turn}
 use Rattle.mask_parts.proofs.Laying.{IsWithinLimits-circuit, IsRefused-within}
-use Rattle.mask_lea.specs.Lea.{schedule, in_turn}
+use Rattle.mask_parts.proofs.Turns.{HasRun, HasRun-none, HasRun-more, begun-run, left-run}
+use Rattle.mask_lea.specs.Lea.{schedule}
 use Rattle.mask_lea.specs.Rounds.{Stage, stage, with_round, with_rounds}
-use Rattle.mask_lea.proofs.Calling.{HasRun, HasRun-none, HasRun-more, begun-run, left-run, IsKnown, IsKnown-from, IsKnown-run, stage-round}
+use Rattle.mask_lea.proofs.Calling.{IsKnown, IsKnown-from, IsKnown-run, stage-round}
 use Rattle.mask_lea.proofs.Lengthening.{Lengthens-round}
 use Rattle.mask_lea.proofs.Running.{IsShape-schedule, Runs-round}
 use Rattle.mask_lea.proofs.rounds.encrypt.Goals as goal
 
 -- the stage in the loop is known
 known : (size : LeaSize) (i : ℕ) (b c : Netlist) (nought one : ℕ) (key now us vs : List (List ℕ)) → IsCircuit b → IsKnown (schedule size) 4 b nought one key us
-    → HasRun (with_round (schedule size)) (stage b nought one key us) (stage c nought one now vs) i → IsKnown (schedule size) 4 c nought one now vs
+    → HasRun (λ (s : Stage). s.draft) (with_round (schedule size)) (stage b nought one key us) (stage c nought one now vs) i → IsKnown (schedule size) 4 c nought one now vs
 known size i b c nought one key now us vs circuit at_first has =
     IsKnown-run (schedule size) 4 (with_round (schedule size)) (λ k s fine. (Runs-round ⊥ (schedule size) (IsShape-schedule size) k s fine).fine)
     b c nought one key now us vs i circuit.formed.gates at_first has

@@ -1,8 +1,9 @@
 use Rattle.std.proofs.Common.{◌≡◌, ℕ, ◌+◌, ◌<◌, List, [], ◌∷◌, length, map, take, get_or, refl, ap, sym, ◌∙◌, arith, set}
 use Rattle.std.proofs.lemmas.Grind.{take-set_at}
 use Rattle.std.proofs.lemmas.List.{take_all, take_more, map-append, length-set}
+use Rattle.mask_parts.specs.Words32.{word}
 use Rattle.mask_lea.specs.Lea.{schedule, place}
-use Rattle.mask_lea.specs.Rounds.{word, round_words}
+use Rattle.mask_lea.specs.Rounds.{round_words}
 use Rattle.mask_lea.proofs.Calling.{place-inside, place-low}
 use Rattle.mask_lea.proofs.Running.{IsShape-schedule}
 use Rattle.mask_lea.proofs.schedule.round_key.Goals as goal

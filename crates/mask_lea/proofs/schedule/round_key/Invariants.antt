@@ -1,6 +1,6 @@
 use Rattle.std.proofs.Common.{◌≡◌, length, map, take}
+use Rattle.mask_parts.specs.Words32.{word}
 use Rattle.mask_lea.specs.Lea.{schedule, place}
-use Rattle.mask_lea.specs.Rounds.{word}
 use Rattle.mask_lea.proofs.schedule.round_key.Given as goal
 
 abbrev pub invariant-loop-j : goal.invariant-loop-j

@@ -3,17 +3,19 @@ use Rattle.std.proofs.lemmas.List.Elements.{All-nil}
 use Rattle.mask_tasks.specs.declared.sizes.LeaSize.{LeaSize}
 use Rattle.mask_circuit.specs.Netlist.{Netlist, IsCircuit}
 use Rattle.mask_parts.specs.Drafts.{IsWithinLimits}
+use Rattle.mask_parts.specs.Turns.{in_turn}
 use Rattle.mask_parts.proofs.Laying.{IsWithinLimits-circuit, IsRefused-within}
-use Rattle.mask_lea.specs.Lea.{schedule, in_turn}
+use Rattle.mask_parts.proofs.Turns.{HasRun, HasRun-none, HasRun-more, begun-run, left-run}
+use Rattle.mask_lea.specs.Lea.{schedule}
 use Rattle.mask_lea.specs.Rounds.{Stage, stage, with_word_updated, with_key_updated}
-use Rattle.mask_lea.proofs.Calling.{HasRun, HasRun-none, HasRun-more, begun-run, left-run, IsKnown, IsKnown-run}
+use Rattle.mask_lea.proofs.Calling.{IsKnown, IsKnown-run}
 use Rattle.mask_lea.proofs.Lengthening.{Lengthens-word_updated}
 use Rattle.mask_lea.proofs.Running.{IsShape-schedule, Runs-word_updated}
 use Rattle.mask_lea.proofs.schedule.update.Goals as goal
 
 -- the key in the loop is known
 known : (size : LeaSize) (i j : ℕ) (b c : Netlist) (nought one : ℕ) (key now : List (List ℕ)) → IsCircuit b → IsKnown (schedule size) 0 b nought one key []
-    → HasRun (with_word_updated (schedule size) i) (stage b nought one key []) (stage c nought one now []) j → IsKnown (schedule size) 0 c nought one now []
+    → HasRun (λ (s : Stage). s.draft) (with_word_updated (schedule size) i) (stage b nought one key []) (stage c nought one now []) j → IsKnown (schedule size) 0 c nought one now []
 known size i j b c nought one key now circuit at_first has =
     IsKnown-run (schedule size) 0 (with_word_updated (schedule size) i) (λ k s fine. (Runs-word_updated ⊥ (schedule size) (IsShape-schedule size) 0 i k s fine).fine)
     b c nought one key now [] [] j circuit.formed.gates at_first has

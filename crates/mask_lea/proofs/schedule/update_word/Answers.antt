@@ -1,9 +1,10 @@
 use Rattle.std.proofs.Common.{refl, arith}
 use Rattle.mask_parts.proofs.Growing.{Grows-refl}
 use Rattle.mask_parts.proofs.Laying.{Lays-exit}
+use Rattle.mask_parts.proofs.WordPassing.{AreOf-word}
 use Rattle.mask_lea.specs.Lea.{schedule}
 use Rattle.mask_lea.specs.Rounds.{stage, with_word_updated}
-use Rattle.mask_lea.proofs.Calling.{place-inside, place-low, AreOf-word, AreOf-constant}
+use Rattle.mask_lea.proofs.Calling.{place-inside, place-low, AreOf-constant}
 use Rattle.mask_lea.proofs.schedule.update_word.Goals as goal
 
 pub offset_bounds-key-at : goal.offset_bounds-key-at

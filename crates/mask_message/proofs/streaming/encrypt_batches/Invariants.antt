@@ -1,6 +1,6 @@
 use Rattle.std.proofs.Common.{◌≡◌, ℕ, ◌-◌, false, None, List, []}
 use Rattle.mask_tasks.specs.Tasks.{longest_message}
-use Rattle.mask_counter.specs.Batches.{stand}
+use Rattle.mask_trace.specs.Drawing.{stand}
 use Rattle.mask_message.specs.Sessions.{HasKeyOf}
 use Rattle.mask_message.proofs.Growing.{SoFar}
 use Rattle.mask_message.proofs.streaming.encrypt_batches.Given as goal

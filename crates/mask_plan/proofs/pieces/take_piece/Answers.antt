@@ -3,7 +3,8 @@ use Rattle.std.proofs.Math.Facts.{Fits-lt-pow}
 use Rattle.std.proofs.lemmas.List.{nil_from_length}
 use Rattle.std.proofs.lemmas.List.Elements.{All-from_get_or}
 use Rattle.mask_bits.specs.Reading.{AreBytes}
-use Rattle.mask_counter.specs.Batches.{Between, mode, stand}
+use Rattle.mask_trace.specs.Drawing.{stand}
+use Rattle.mask_counter.specs.Batches.{Between, mode}
 use Rattle.mask_ciphers.specs.Tasks.{method_of}
 use Rattle.mask_plan.specs.Sessions.{bit_place}
 use Rattle.mask_plan.proofs.Places.{bits_stand}

@@ -3,10 +3,10 @@ use Rattle.mask_circuit.specs.Netlist.{Netlist, only_inputs}
 use Rattle.mask_parts.specs.Drafts.{Grows}
 use Rattle.mask_parts.proofs.Growing.{Grows-refl, Grows-trans, Grows-with_gates}
 use Rattle.mask_parts.proofs.Laying.{Lays-exit, Lays-last}
+use Rattle.mask_parts.proofs.Passing.{AreOf-ready}
 use Rattle.mask_trivium.specs.Clocks.{stage}
 use Rattle.mask_trivium.specs.NamedTrivium.{start, set_up, named_start}
 use Rattle.mask_trivium.proofs.Concluding.{done-start, Grows-set_up, Grows-named_start}
-use Rattle.mask_trivium.proofs.Passing.{AreOf-ready}
 use Rattle.mask_trivium.proofs.Starting.{IsFine-start}
 use Rattle.mask_trivium.proofs.circuits.lay_start.Goals as goal
 
@@ -44,7 +44,7 @@ fence_outputs-requires c =
     let told = c.in_ok-lay_setup.ensures in
     let draft = rw is at told.laid.1 in
     let state = rw is at told.moved in
-    rw (draft, state) (AreOf-ready ⊥ set_up.draft set_up.state (done-start ⊥).ready)
+    rw (draft, state) (done-start ⊥).known
 
 pub returns : goal.returns
 unfolding named_start set_up

@@ -4,10 +4,10 @@ use Rattle.mask_circuit.specs.Netlist.{Netlist, value_count, only_inputs}
 use Rattle.mask_parts.specs.Drafts.{Grows}
 use Rattle.mask_parts.proofs.Growing.{Grows-refl, Grows-trans}
 use Rattle.mask_parts.proofs.Laying.{Lays-exit, Lays-last}
+use Rattle.mask_parts.proofs.Passing.{AreOf-ready}
 use Rattle.mask_trivium.specs.Clocks.{stage}
 use Rattle.mask_trivium.specs.NamedTrivium.{given, streamed, encrypted, named_step}
-use Rattle.mask_trivium.proofs.Concluding.{results, runs-step, ready-message, done-step, Grows-streamed, Grows-encrypted, Grows-named_step}
-use Rattle.mask_trivium.proofs.Passing.{AreOf-ready}
+use Rattle.mask_trivium.proofs.Concluding.{results, runs-step, outputs-long, ready-message, done-step, Grows-streamed, Grows-encrypted, Grows-named_step}
 use Rattle.mask_trivium.proofs.Starting.{IsFine-given}
 use Rattle.mask_trivium.proofs.circuits.lay_step.Goals as goal
 
@@ -32,6 +32,7 @@ unfolding streamed
 xor_all-requires c =
     let told = rw (begins c.args.b.now _ c.requires c.number_from.ensures) at c.in_ok-outputs.ensures.laid in
     record {
+      same = rw (told.0, c.number_from-2.ensures) outputs-long;
       us_known = rw (told.1, told.0) (AreOf-ready ⊥ streamed.draft streamed.outputs (runs-step ⊥).fine.outputs);
       vs_known = rw (told.1, c.number_from-2.ensures) (AreOf-ready ⊥ streamed.draft (range_with_len 288 64) (ready-message ⊥));
     }
@@ -60,7 +61,7 @@ fence_outputs-requires c =
     let told = rw is at c.in_ok-outputs.ensures.laid in
     let summed = rw (told.1, told.0, c.number_from-2.ensures) at c.in_ok-xor_all.ensures in
     let values = fenced c.lay_stream.new.b c.values-first.result c.lay_stream.new.state c.followed.result told.1 c.values-first.ensures.count (rw is at c.in_ok-outputs.ensures.moved) c.followed.ensures in
-    rw (values, summed.1) (AreOf-ready ⊥ encrypted (streamed.state ++ results) (done-step ⊥).ready)
+    rw (values, summed.1) (done-step ⊥).known
 
 pub returns : goal.returns
 unfolding named_step streamed encrypted

@@ -1,15 +1,11 @@
 use Rattle.std.proofs.Common.{sym, subst}
 use Rattle.mask_circuit.specs.Acceptance.{IsStrong}
-use Rattle.mask_parts.proofs.Concluding.{IfOk-same}
-use Rattle.mask_parts.specs.CipherCircuits.{IsCipherCircuit}
-use Rattle.mask_trivium.specs.NamedTrivium.{named_start, size_start, start_of_bits}
-use Rattle.mask_trivium.proofs.Concluding.{IsStrong-named_start, IsCipherCircuit-named_start}
+use Rattle.mask_parts.proofs.Concluding.{IfOk-named}
+use Rattle.mask_trivium.proofs.Concluding.{IsCipherCircuit-named_start}
 use Rattle.mask_trivium.proofs.circuits.trivium_start.Goals as goal
 
 pub strong_circuit-requires : goal.strong_circuit-requires
-strong_circuit-requires g c = subst IsStrong (sym c.in_ok-circuit.ensures) IsStrong-named_start
+strong_circuit-requires g c = subst IsStrong (sym c.in_ok-circuit.ensures) IsCipherCircuit-named_start.strong
 
 pub returns-clause-circuit : goal.returns-clause-circuit
-returns-clause-circuit g c =
-    IfOk-same c.in_ok-circuit.circuit _ c.strong_circuit.result c.strong_circuit.ensures.same
-    (subst (IsCipherCircuit named_start size_start start_of_bits) (sym c.in_ok-circuit.ensures) IsCipherCircuit-named_start)
+returns-clause-circuit g c = IfOk-named c.in_ok-circuit.circuit c.strong_circuit.result c.in_ok-circuit.ensures c.strong_circuit.ensures.same IsCipherCircuit-named_start

@@ -1,10 +1,10 @@
 use Rattle.std.proofs.Common.{◌≡◌, [], refl, ap, sym, subst, arith}
 use Rattle.mask_parts.specs.Drafts.{IsWithinLimits}
 use Rattle.mask_parts.proofs.Laying.{IsWithinLimits-circuit, Lays-exit}
+use Rattle.mask_parts.proofs.Passing.{AreOf-ready}
 use Rattle.mask_trivium.specs.Clocks.{Stage, stage, setup}
 use Rattle.mask_trivium.proofs.Calling.{IsFine-stage, stage-clock, HasRun-none, HasRun-more, HasRun-all, left-behind}
 use Rattle.mask_trivium.proofs.Clocking.{IsClock-setup}
-use Rattle.mask_trivium.proofs.Passing.{AreOf-ready}
 use Rattle.mask_trivium.proofs.clocks.lay_setup.Goals as goal
 
 pub loop-clock-init : goal.loop-clock-init

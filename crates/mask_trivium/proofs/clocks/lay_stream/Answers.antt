@@ -4,10 +4,10 @@ use Rattle.std.proofs.lemmas.List.{length-set, take_all}
 use Rattle.mask_circuit.specs.Netlist.{Netlist}
 use Rattle.mask_parts.specs.Drafts.{IsWithinLimits}
 use Rattle.mask_parts.proofs.Laying.{IsWithinLimits-circuit, Lays-exit}
+use Rattle.mask_parts.proofs.Passing.{AreOf-ready}
 use Rattle.mask_trivium.specs.Clocks.{Stage, stage, stream, with_clock, with_clocks}
 use Rattle.mask_trivium.proofs.Calling.{IsFine-stage, stage-clock, HasRun, HasRun-none, HasRun-more, HasRun-all, left-behind}
 use Rattle.mask_trivium.proofs.Clocking.{IsClock-stream}
-use Rattle.mask_trivium.proofs.Passing.{AreOf-ready}
 use Rattle.mask_trivium.proofs.clocks.lay_stream.Goals as goal
 
 pub loop-k-init : goal.loop-k-init

@@ -8,9 +8,10 @@ use Rattle.mask_circuit.specs.Ring.{words}
 use Rattle.mask_circuit.specs.Wires.{each, on_first}
 use Rattle.mask_eval.specs.Frames.{IsFrameOf}
 use Rattle.mask_eval.specs.Evaluated.{EvaluatesInLanes}
+use Rattle.mask_trace.specs.Drawing.{stand}
 use Rattle.mask_modes.specs.CounterMode.{block_count}
 use Rattle.mask_counter.specs.Blocks.{reading}
-use Rattle.mask_counter.specs.Batches.{Between, Encrypted, have, mode, stand}
+use Rattle.mask_counter.specs.Batches.{Between, Encrypted, have, mode}
 use Rattle.mask_counter.proofs.Evaluations.{encrypted, few_blocks, still_ready}
 use Rattle.mask_counter.proofs.Lanes.{front_stays}
 use Rattle.mask_counter.proofs.counter.CounterRun.encrypt.Goals as goal

@@ -1,6 +1,8 @@
 use Rattle.std.proofs.Common.{refl, ap, sym, ◌∙◌}
-use Rattle.mask_counter.specs.Batches.{Between, stand}
-use Rattle.mask_counter.proofs.Batches.{is_batch, plain_ran, plain_stopped, same_stand}
+use Rattle.mask_trace.specs.Drawing.{stand}
+use Rattle.mask_trace.proofs.Drawing.{same_stand}
+use Rattle.mask_counter.specs.Batches.{Between}
+use Rattle.mask_counter.proofs.Batches.{is_batch, plain_ran, plain_stopped}
 use Rattle.mask_counter.proofs.counter.CounterRun.plain_batch.Goals as goal
 
 pub returns-in-Ok-clause-ran : goal.returns-in-Ok-clause-ran

@@ -6,9 +6,9 @@ use Rattle.mask_bits.specs.Lanes.{lane}
 use Rattle.mask_circuit.specs.Netlist.{Netlist}
 use Rattle.mask_eval.specs.Frames.{IsFrameOf}
 use Rattle.mask_eval.specs.Evaluated.{EvaluatesInLanes}
-use Rattle.mask_trace.specs.Drawing.{Ran}
+use Rattle.mask_trace.specs.Drawing.{Ran, stand}
 use Rattle.mask_modes.specs.Steps.{refresh_step}
-use Rattle.mask_counter.specs.Batches.{Between, have, mode, stand}
+use Rattle.mask_counter.specs.Batches.{Between, have, mode}
 use Rattle.mask_counter.proofs.Evaluations.{refreshed}
 use Rattle.mask_counter.proofs.counter.CounterRun.renew.Goals as goal
 

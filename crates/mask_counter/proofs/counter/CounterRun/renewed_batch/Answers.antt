@@ -1,8 +1,9 @@
 use Rattle.std.proofs.Common.{◌≡◌, ◌-◌, ◌*◌, ◌≤◌, length, refl, ap, sym, ◌∙◌, arith}
-use Rattle.mask_trace.proofs.Drawing.{draws_join}
+use Rattle.mask_trace.proofs.Drawing.{draws_join, same_stand}
+use Rattle.mask_trace.specs.Drawing.{stand}
 use Rattle.mask_modes.specs.CounterMode.{block_count}
-use Rattle.mask_counter.specs.Batches.{Between, stand}
-use Rattle.mask_counter.proofs.Batches.{is_batch, ready_behind, refresh_stopped, renewed_ran, renewed_stopped, room_behind, same_stand}
+use Rattle.mask_counter.specs.Batches.{Between}
+use Rattle.mask_counter.proofs.Batches.{is_batch, ready_behind, refresh_stopped, renewed_ran, renewed_stopped, room_behind}
 use Rattle.mask_counter.proofs.counter.CounterRun.renewed_batch.Goals as goal
 
 pub returns-in-Err-clause-stopped : goal.returns-in-Err-clause-stopped

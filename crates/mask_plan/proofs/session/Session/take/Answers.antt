@@ -1,6 +1,5 @@
 use Rattle.std.proofs.Common.{◌≡◌, None, Some, refl, ap, ap₂, subst}
-use Rattle.mask_trace.specs.Drawing.{Stand}
-use Rattle.mask_counter.specs.Batches.{stand}
+use Rattle.mask_trace.specs.Drawing.{Stand, stand}
 use Rattle.mask_plan.specs.Sessions.{IsClosedBy, Progress, Refuses}
 use Rattle.mask_plan.specs.Inside.{progress}
 use Rattle.mask_plan.proofs.Taking.{refuses}

@@ -1,0 +1,5 @@
+pub mod Laid
+pub mod Registers
+pub mod Evaluated
+pub mod Stopping
+pub mod Forms
