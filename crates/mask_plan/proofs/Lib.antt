@@ -2,4 +2,5 @@ mod Bits
 mod Places
 mod Sizes
 mod StepExamples
+mod Streaming
 mod Taking

@@ -25,9 +25,12 @@ use Rattle.mask_modes.proofs.Keystreams.{length-ciphertext, makes_blocks}
 use Rattle.mask_modes.proofs.Encrypting.{steps_encrypt}
 use Rattle.mask_modes.proofs.HandedOut.{outputs_are_bits}
 use Rattle.mask_counter.specs.Batches.{Between, BatchRan, BatchStopped, have, mode}
-use Rattle.mask_ciphers.specs.Methods.{Method, InCounterMode, batch, batch_gates, gates_of, key_width, next_gates}
+use Rattle.mask_ciphers.specs.Methods.{Method, InCounterMode, AsStream, batch, batch_gates, gates_of, key_width, next_gates}
 use Rattle.mask_ciphers.specs.Laws.{IsSound}
 use Rattle.mask_ciphers.specs.Tasks.{method_of}
+use Rattle.mask_streams.proofs.Keystreams.{output_fits as stream_fits}
+use Rattle.mask_plan.specs.declared.runs.TaskRun.{TaskRun}
+use Rattle.mask_plan.specs.declared.runs.TaskRun.TheVariants.{Counter, Stream}
 use Rattle.mask_plan.specs.declared.session.Stop.{Stop}
 use Rattle.mask_plan.specs.Sessions.{Refuses, stop_of}
 use Rattle.mask_plan.specs.Inside.{AreEncrypted, Begin, GoesOn, IsBy, Stopped, Took, progress}
@@ -90,7 +93,7 @@ batch_done run run' done = record run { shares = run'.shares; done = done; outpu
 -- BY EVERY METHOD
 
 pub took : (N : ℕ) (method : Method) (place : ℕ → ℕ → ℕ) (run run' : Between) (fed : ℕ) (piece : List ℕ) (last : Bool) (a b : Stand) → 2 ≤ N → IsSound method →
-    Places method place → GoesOn N method fed run → BatchRan N run run' piece a b → AreBytes piece → Took N method place fed piece last run run' a b
+    Places method place → GoesOn N method fed (Counter run) → BatchRan N run run' piece a b → AreBytes piece → Took N method place fed piece last (Counter run) (Counter run') a b
 took N (InCounterMode m cipher) place run run' fed piece last a b two is stand on r are = record {
   ran = ran N m cipher is run fed on run' piece a b two r;
   values = values N m cipher is run fed on run' piece a b two r;
@@ -99,11 +102,12 @@ took N (InCounterMode m cipher) place run run' fed piece last a b two is stand o
       (makes_blocks m cipher (key_of (have run)) is (size N m cipher is run fed on)) (block_count m.block fed) piece in
       outputs_stand N m cipher is run fed on run' piece a b two r place stand are k p (subst (λ (n : ℕ). k < n) long lt) small;
 }
+took N (AsStream iv) place run run' fed piece last a b two is stand on r are = absurd on
 
 -- behind another whole batch the run goes on
-pub goes_on : (N : ℕ) (method : Method) (run run' : Between) (fed : ℕ) (piece : List ℕ) (a b : Stand) → 2 ≤ N → IsSound method → GoesOn N method fed run →
+pub goes_on : (N : ℕ) (method : Method) (run run' : Between) (fed : ℕ) (piece : List ℕ) (a b : Stand) → 2 ≤ N → IsSound method → GoesOn N method fed (Counter run) →
     BatchRan N run run' piece a b → run' ≡ batch_done run run' (run.done + block_count run.block (length piece)) → length piece ≡ batch method →
-    GoesOn N method (fed + length piece) run'
+    GoesOn N method (fed + length piece) (Counter run')
 goes_on N (InCounterMode m cipher) run run' fed piece a b two is on r done all = record {
   in_mode = ap mode done ∙ on.in_mode;
   whole = ap (λ (n : ℕ). n % (64 * m.block)) (omega (arith, all)) ∙ add-mod_left (64 * m.block) fed ∙ on.whole;
@@ -112,19 +116,22 @@ goes_on N (InCounterMode m cipher) run run' fed piece a b two is on r done all =
       ∙ sym (blocks_follow m.block fed (length piece) is.circuits.some on.whole);
   has_key = (key_stays N m cipher is run fed on run' piece a b two r).0;
 }
+goes_on N (AsStream iv) run run' fed piece a b two is on r done all = absurd on
 
 -- the run is one by the method as long as its mode stays
-pub is_by : (N : ℕ) (method : Method) (run run' : Between) (fed : ℕ) → GoesOn N method fed run → mode run' ≡ mode run → IsBy method run'
+pub is_by : (N : ℕ) (method : Method) (run run' : Between) (fed : ℕ) → GoesOn N method fed (Counter run) → mode run' ≡ mode run → IsBy method (Counter run')
 is_by N (InCounterMode m cipher) run run' fed on same = same ∙ on.in_mode
+is_by N (AsStream iv) run run' fed on same = absurd on
 
 -- the gates of the run's circuits are those of the method's
-pub gates_are : (N : ℕ) (method : Method) (run : Between) (fed : ℕ) (piece : List ℕ) (last : Bool) → GoesOn N method fed run →
+pub gates_are : (N : ℕ) (method : Method) (run : Between) (fed : ℕ) (piece : List ℕ) (last : Bool) → GoesOn N method fed (Counter run) →
     batch_gates (mode run) run.done piece ≡ next_gates method fed piece last
 gates_are N (InCounterMode m cipher) run fed piece last on =
     ap₂ (λ (n : Mode) (i : ℕ). batch_gates n i piece) on.in_mode on.done_is
+gates_are N (AsStream iv) run fed piece last on = absurd on
 
-pub stopped : (N : ℕ) (method : Method) (run : Between) (fed : ℕ) (piece : List ℕ) (last : Bool) (wanted counted counted' : ℕ) (a b : Stand) → GoesOn N method fed run →
-    BatchStopped N run piece wanted counted counted' a b → Stopped N method fed piece last run wanted counted counted' a b
+pub stopped : (N : ℕ) (method : Method) (run : Between) (fed : ℕ) (piece : List ℕ) (last : Bool) (wanted counted counted' : ℕ) (a b : Stand) → GoesOn N method fed (Counter run) →
+    BatchStopped N run piece wanted counted counted' a b → Stopped N method fed piece last (Counter run) wanted counted counted' a b
 stopped N (InCounterMode m cipher) run fed piece last wanted counted counted' a b on stop =
     let of : (P : Mode → ℕ → Type 0) → P (mode run) run.done → P m (block_count m.block fed)
     = λ P h. subst (λ (n : Mode). P n (block_count m.block fed)) on.in_mode (subst (P (mode run)) on.done_is h) in
@@ -142,20 +149,21 @@ stopped N (InCounterMode m cipher) run fed piece last wanted counted counted' a 
           ∙ ap (λ (gates : ℕ). counted + gates)
           (ap (λ (n : Mode). stop.count * length n.refresh.gates) on.in_mode ∙ sym (refresh-gates m (block_count m.block fed) stop.count few));
     }
+stopped N (AsStream iv) run fed piece last wanted counted counted' a b on stop = absurd on
 
 -- a batch fits
-pub batch_fits : (N : ℕ) (method : Method) (run : Between) (fed n : ℕ) → IsSound method → GoesOn N method fed run → n ≤ batch method → n ≤ 64 * run.block
+pub batch_fits : (N : ℕ) (method : Method) (run : Between) (fed n : ℕ) → IsSound method → GoesOn N method fed (Counter run) → n ≤ batch method → n ≤ 64 * run.block
 batch_fits N (InCounterMode m cipher) run fed n is on few = subst (λ (r : Mode). n ≤ 64 * r.block) (sym on.in_mode) few
+batch_fits N (AsStream iv) run fed n is on few = absurd on
 
-pub few_done : (N : ℕ) (method : Method) (run : Between) (fed most : ℕ) → IsSound method → GoesOn N method fed run → fed ≤ most → run.done ≤ most
+pub few_done : (N : ℕ) (method : Method) (run : Between) (fed most : ℕ) → IsSound method → GoesOn N method fed (Counter run) → fed ≤ most → run.done ≤ most
 few_done N (InCounterMode m cipher) run fed most is on few = omega (arith, on.done_is, blocks_are_few m.block fed is.circuits.some)
+few_done N (AsStream iv) run fed most is on few = absurd on
 
-pub groups_done : (N : ℕ) (method : Method) (run : Between) (fed : ℕ) → IsSound method → GoesOn N method fed run → run.done % 64 ≡ 0
+pub groups_done : (N : ℕ) (method : Method) (run : Between) (fed : ℕ) → IsSound method → GoesOn N method fed (Counter run) → run.done % 64 ≡ 0
 groups_done N (InCounterMode m cipher) run fed is on =
     ap (λ (n : ℕ). n % 64) on.done_is ∙ batches_are_groups m.block fed is.circuits.some on.whole
-
-pub some_block : (N : ℕ) (method : Method) (run : Between) (fed : ℕ) → IsSound method → GoesOn N method fed run → 0 < run.block
-some_block N (InCounterMode m cipher) run fed is on = subst (λ (r : Mode). 0 < r.block) (sym on.in_mode) is.circuits.some
+groups_done N (AsStream iv) run fed is on = absurd on
 
 -- NO BYTES
 
@@ -168,37 +176,50 @@ unfolding steps_from
 no_steps m i piece some none =
     ap (λ (n : ℕ). steps_from m i (each (block_at m.block piece) n)) (none_counted m.block (length piece) some (ap length none))
 
-pub nothing_ran : (N : ℕ) (run : Between) (piece : List ℕ) (a : Stand) → 0 < run.block → piece ≡ [] → length a.kept < 8 → BatchRan N run run piece a a
-nothing_ran N run piece a some none few = record {
-  ran = subst (λ (steps : List Step). Ran N (have run) steps (have run) a a) (sym (no_steps (mode run) run.done piece some none)) (runs_join.none N (have run) a few);
-  tapes = λ l. [];
-  made = λ l lt. absurd (omega (arith, lt, none_counted run.block (length piece) some (ap length none)));
+pub took_none : (N : ℕ) (method : Method) (place : ℕ → ℕ → ℕ) (run : TaskRun) (fed : ℕ) (last : Bool) (a : Stand) → IsSound method → GoesOn N method fed run →
+    length a.kept < 8 → Took N method place fed [] last run run a a
+unfolding ciphertext_from
+took_none N (InCounterMode m cipher) place (Counter run) fed last a is on few =
+    let none = no_steps m (block_count m.block fed) [] is.circuits.some refl in
+    record {
+      ran = rw none (runs_join.none N (have run) a few);
+      values = rw none refl;
+      stand = λ k p lt small. absurd (omega (arith, lt));
+    }
+took_none N (AsStream iv) place (Stream run) fed last a is on few = record {
+  ran = runs_join.none N run.held a few;
+  values = refl;
+  stand = λ k p lt small. absurd (omega (arith, lt, stream_fits.piece_as_long iv (values_of run.held) fed []));
 }
-
--- a run that did so many blocks more
-abbrev pub with_done : Between → ℕ → Between
-with_done run done = record run { done = done }
-
-pub nothing_done : (run : Between) (piece : List ℕ) → 0 < run.block → piece ≡ [] → run ≡ with_done run (run.done + block_count run.block (length piece))
-nothing_done run piece some none =
-    let e : run.done ≡ run.done + block_count run.block (length piece) = omega (arith, none_counted run.block (length piece) some (ap length none)) in
-    ap (with_done run) e
+took_none N (InCounterMode m cipher) place (Stream run) fed last a is on few = absurd on
+took_none N (AsStream iv) place (Counter run) fed last a is on few = absurd on
 
 -- a run goes on from its beginning
-pub begins : (N : ℕ) (method : Method) (shares : List BitShares) (run : Between) → IsSound method → Begin method shares run →
+pub begins : (N : ℕ) (method : Method) (shares : List BitShares) (run : TaskRun) → IsSound method → Begin method shares run →
     HasShares N (key_width method) 0 (record { key = shares; state = [] }) → GoesOn N method 0 run
-begins N (InCounterMode m cipher) shares run is begin has = record {
+begins N (InCounterMode m cipher) shares (Counter run) is begin has = record {
   in_mode = begin.in_mode;
   whole = zero-mod (64 * m.block);
   done_is = begin.none ∙ sym (none_counted m.block 0 is.circuits.some refl);
   has_key = subst (λ (key : List BitShares). HasKey N m (record { key = key; state = [] })) (sym begin.key) has;
 }
+begins N (AsStream iv) shares (Stream run) is begin has = record {
+  iv_is = begin.iv_is;
+  whole = refl;
+  has_key = subst (λ (now : Registers BitShares). HasShares N 80 (length now.state) now) (sym begin.held_is) has;
+  state = λ lt. absurd (omega (arith, lt));
+}
+begins N (InCounterMode m cipher) shares (Stream run) is begin has = absurd begin
+begins N (AsStream iv) shares (Counter run) is begin has = absurd begin
 
-pub begins_by : (method : Method) (shares : List BitShares) (run : Between) → Begin method shares run → IsBy method run
-begins_by (InCounterMode m cipher) shares run begin = begin.in_mode
+pub begins_by : (method : Method) (shares : List BitShares) (run : TaskRun) → Begin method shares run → IsBy method run
+begins_by (InCounterMode m cipher) shares (Counter run) begin = begin.in_mode
+begins_by (AsStream iv) shares (Stream run) begin = begin.iv_is
+begins_by (InCounterMode m cipher) shares (Stream run) begin = absurd begin
+begins_by (AsStream iv) shares (Counter run) begin = absurd begin
 
 -- why a call was refused in which the tape failed, or memory
-pub refuses : (N : ℕ) (task : Task) (run : Between) (fed written : ℕ) (closed : Option Stop) (ended : Bool) (piece : List ℕ) (last : Bool)
+pub refuses : (N : ℕ) (task : Task) (run : TaskRun) (fed written : ℕ) (closed : Option Stop) (ended : Bool) (piece : List ℕ) (last : Bool)
     (wanted counted counted' : ℕ) (a b : Stand) (error : TapeError) →
     (error ≡ tape_error.Failed → Stopped N (method_of task) fed piece last run wanted counted counted' a b) →
     (error ≡ tape_error.NoMemory → (b ≡ a) × (counted' ≡ counted)) →

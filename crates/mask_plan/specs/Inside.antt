@@ -7,29 +7,46 @@ use Rattle.mask_circuit.specs.Sharing.{unmasked}
 use Rattle.mask_tape.specs.Tape.{new_bytes}
 use Rattle.mask_tasks.specs.declared.tasks.Task.{Task}
 use Rattle.mask_tasks.specs.Tasks.{longest_message}
-use Rattle.mask_trace.specs.Steps.{Step, bits_of}
+use Rattle.mask_trace.specs.Steps.{Registers, Step, bits_of}
 use Rattle.mask_trace.specs.Traces.{BitShares}
-use Rattle.mask_trace.specs.Values.{values_of, value_after}
+use Rattle.mask_trace.specs.Values.{HasShares, values_of, value_after}
 use Rattle.mask_trace.specs.Drawing.{Stand, Ran, RanPart}
 use Rattle.mask_modes.specs.CounterMode.{block_count}
 use Rattle.mask_modes.specs.Steps.{Mode}
 use Rattle.mask_modes.specs.Outputs.{HasKey}
 use Rattle.mask_counter.specs.Batches.{Between, have, mode}
+use Rattle.mask_keystream.specs.Streaming as stream
 use Rattle.mask_ciphers.specs.Methods as methods
 use Rattle.mask_ciphers.specs.Tasks.{method_of}
+use Rattle.mask_plan.specs.declared.runs.TaskRun.{TaskRun}
+use Rattle.mask_plan.specs.declared.runs.TaskRun.TheVariants.{Counter, Stream}
 use Rattle.mask_plan.specs.declared.session.Stop.{Stop}
 use Rattle.mask_plan.specs.Sessions.{Progress}
 
+-- what a run has in shares, and the words of its latest outputs
+abbrev pub held : TaskRun → Registers BitShares
+held (Counter run) = have run
+held (Stream run) = run.held
+
+abbrev pub outputs : TaskRun → List (List ℕ)
+outputs (Counter run) = run.outputs
+outputs (Stream run) = run.outputs
+
+-- as many as a block has bits, or a step of Trivium outputs
+abbrev pub HasOutputs : TaskRun → Type 0
+HasOutputs (Counter run) = length run.outputs ≡ 8 * run.block
+HasOutputs (Stream run) = length run.outputs ≡ 352
+
 -- how a session stands whose parts these are
-abbrev pub progress : Task → Between → ℕ → Option Stop → Bool → ℕ → Progress
+abbrev pub progress : Task → TaskRun → ℕ → Option Stop → Bool → ℕ → Progress
 progress task run fed closed ended written = record {
   task = task;
-  held = have run;
+  held = held run;
   fed = fed;
   closed = closed;
   ended = ended;
   written = written;
-  outputs = run.outputs;
+  outputs = outputs run;
 }
 
 -- a run in this mode, with these shares of the key, ahead of its first block
@@ -38,13 +55,22 @@ pub record BeginsRun (m : Mode) (shares : List BitShares) (run : Between) : Type
   pub key : run.shares ≡ shares
   pub none : run.done ≡ 0
 
+-- a run of Trivium with this IV
+pub record BeginsStream (iv : List ℕ) (shares : List BitShares) (run : stream.Between) : Type 0 where
+  pub iv_is : run.iv ≡ iv
+  pub held_is : run.held ≡ record { key = shares; state = [] }
+
 -- a run by this method, with these shares of the key, ahead of the message
-abbrev pub Begin : methods.Method → List BitShares → Between → Type 0
-Begin (methods.InCounterMode m cipher) shares run = BeginsRun m shares run
+abbrev pub Begin : methods.Method → List BitShares → TaskRun → Type 0
+Begin (methods.InCounterMode m cipher) shares (Counter run) = BeginsRun m shares run
+Begin (methods.AsStream iv) shares (Stream run) = BeginsStream iv shares run
+Begin method shares run = ⊥
 
 -- A run by this method, which may be over.
-abbrev pub IsBy : methods.Method → Between → Type 0
-IsBy (methods.InCounterMode m cipher) run = mode run ≡ m
+abbrev pub IsBy : methods.Method → TaskRun → Type 0
+IsBy (methods.InCounterMode m cipher) (Counter run) = mode run ≡ m
+IsBy (methods.AsStream iv) (Stream run) = run.iv ≡ iv
+IsBy method run = ⊥
 
 -- It took so many bytes of a message, whole batches, and goes on: the key is there, in N shares of each bit.
 pub record AreEncrypted (N : ℕ) (m : Mode) (fed : ℕ) (run : Between) : Type 0 where
@@ -53,24 +79,33 @@ pub record AreEncrypted (N : ℕ) (m : Mode) (fed : ℕ) (run : Between) : Type 
   pub done_is : run.done ≡ block_count m.block fed
   pub has_key : HasKey N m (have run)
 
-abbrev pub GoesOn : ℕ → methods.Method → ℕ → Between → Type 0
-GoesOn N (methods.InCounterMode m cipher) fed run = AreEncrypted N m fed run
+-- the same of Trivium: behind some bytes the state is there
+pub record AreStreamed (N : ℕ) (iv : List ℕ) (fed : ℕ) (run : stream.Between) : Type 0 where
+  pub iv_is : run.iv ≡ iv
+  pub whole : fed % 8 ≡ 0
+  pub has_key : HasShares N 80 (length run.held.state) run.held
+  pub state : 0 < fed → length run.held.state ≡ 352
+
+abbrev pub GoesOn : ℕ → methods.Method → ℕ → TaskRun → Type 0
+GoesOn N (methods.InCounterMode m cipher) fed (Counter run) = AreEncrypted N m fed run
+GoesOn N (methods.AsStream iv) fed (Stream run) = AreStreamed N iv fed run
+GoesOn N method fed run = ⊥
 
 -- Behind so many bytes these were taken, the last ones or not: all their steps were evaluated, and nothing else. What is held
 -- stands for what they compute, and what is handed out for what is written of them; `place` says where a block has a bit of a
 -- byte.
-pub record Took (N : ℕ) (method : methods.Method) (place : ℕ → ℕ → ℕ) (fed : ℕ) (piece : List ℕ) (last : Bool) (run run' : Between) (a b : Stand) : Type 0 where
-  pub ran : Ran N (have run) (methods.next_steps method fed piece last) (have run') a b
-  pub values : values_of (have run') ≡ value_after (values_of (have run)) (methods.next_steps method fed piece last)
-  pub stand : (k p : ℕ) → k < length (methods.next_output method (values_of (have run)) fed piece last) → p < 8 →
-      unmasked bits (lane (k / methods.block method) (slice_index_or run'.outputs (place (k % methods.block method) p) []))
-      ≡ bit p (slice_index (methods.next_output method (values_of (have run)) fed piece last) k)
+pub record Took (N : ℕ) (method : methods.Method) (place : ℕ → ℕ → ℕ) (fed : ℕ) (piece : List ℕ) (last : Bool) (run run' : TaskRun) (a b : Stand) : Type 0 where
+  pub ran : Ran N (held run) (methods.next_steps method fed piece last) (held run') a b
+  pub values : values_of (held run') ≡ value_after (values_of (held run)) (methods.next_steps method fed piece last)
+  pub stand : (k p : ℕ) → k < length (methods.next_output method (values_of (held run)) fed piece last) → p < 8 →
+      unmasked bits (lane (k / methods.block method) (slice_index_or (outputs run') (place (k % methods.block method) p) []))
+      ≡ bit p (slice_index (methods.next_output method (values_of (held run)) fed piece last) k)
 
 -- The tape failed behind the first of their steps, of those that come ahead of their own: it wants just the new bytes that the
 -- next ones need, at least one.
-pub record Stopped (N : ℕ) (method : methods.Method) (fed : ℕ) (piece : List ℕ) (last : Bool) (run : Between) (wanted counted counted' : ℕ) (a b : Stand) : Type 0 where
+pub record Stopped (N : ℕ) (method : methods.Method) (fed : ℕ) (piece : List ℕ) (last : Bool) (run : TaskRun) (wanted counted counted' : ℕ) (a b : Stand) : Type 0 where
   pub count : ℕ
-  pub ran : RanPart N (have run) (methods.next_steps method fed piece last) count a b
+  pub ran : RanPart N (held run) (methods.next_steps method fed piece last) count a b
   pub few : count ≤ length (methods.ahead method fed last)
   pub next : List Step
   pub later : List Step
@@ -81,7 +116,7 @@ pub record Stopped (N : ℕ) (method : methods.Method) (fed : ℕ) (piece : List
 
 -- The run is one of the task, of which no more than the longest message was taken. A session that is neither closed nor at its
 -- end goes on.
-pub record IsInOrder (N : ℕ) (task : Task) (fed : ℕ) (closed : Option Stop) (ended : Bool) (run : Between) : Type 0 where
+pub record IsInOrder (N : ℕ) (task : Task) (fed : ℕ) (closed : Option Stop) (ended : Bool) (run : TaskRun) : Type 0 where
   pub some : 2 ≤ N
   pub within : fed ≤ longest_message task
   pub by : IsBy (method_of task) run

@@ -8,7 +8,7 @@ use Rattle.mask_tape.specs.Tape.{new_bytes}
 use Rattle.mask_tape.specs.declared.tape.TapeError.{TapeError}
 use Rattle.mask_tape.specs.declared.tape.TapeError.TheVariants as tape_error
 use Rattle.mask_tasks.specs.declared.tasks.Task.{Task}
-use Rattle.mask_tasks.specs.declared.tasks.Task.TheVariants.{Present, Lea}
+use Rattle.mask_tasks.specs.declared.tasks.Task.TheVariants.{Present, Lea, Trivium}
 use Rattle.mask_tasks.specs.Tasks.{longest_message}
 use Rattle.mask_trace.specs.Steps.{Registers, Step, bits_of}
 use Rattle.mask_trace.specs.Traces.{BitShares}
@@ -60,6 +60,13 @@ block_length task = methods.block (method_of task)
 abbrev pub bit_place : Task → ℕ → ℕ → ℕ
 bit_place (Present size iv) byte place = 8 * (8 - suc byte) + place
 bit_place (Lea size iv) byte place = 8 * byte + place
+bit_place (Trivium iv) byte place = 288 + (8 * byte + place)
+
+-- among so many: those of a block, and behind the state of Trivium those of its output
+abbrev pub output_bits : Task → ℕ
+output_bits (Present size iv) = 64
+output_bits (Lea size iv) = 128
+output_bits (Trivium iv) = 352
 
 -- the words of the shares of that bit, a block in each lane
 abbrev pub out_words : Progress → ℕ → ℕ → List ℕ

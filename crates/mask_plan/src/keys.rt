@@ -53,7 +53,7 @@ fn line_bit(task: &Task, line: &[u8], j: usize) -> u64
 {
     match *task {
         Task::Present { .. } => high_bit(line, j),
-        Task::Lea { .. } => low_bit(line, j),
+        Task::Lea { .. } | Task::Trivium { .. } => low_bit(line, j),
     }
 }
 

@@ -1,9 +1,10 @@
 //! Sessions: a message that is taken piece by piece, where each piece is encrypted on shares.
 //!
 //! A [`Session`] has a key in N shares, at order N - 1, and takes the message in batches: [`Session::feed`] takes as many bytes as
-//! [`Session::batch_bytes`] says, which are 64 blocks, and [`Session::end`] takes the rest, which may be none. Each call evaluates
-//! the cipher's circuit once, for all blocks side by side, and ahead of each batch but the first a circuit that gives the key fresh
-//! shares. It draws the coins of its blocks from the tape, and tells the watch of each block.
+//! [`Session::batch_bytes`] says, and [`Session::end`] takes the rest, which may be none. A batch of a block cipher is 64 blocks.
+//! Each call evaluates the cipher's circuit once, for all blocks side by side, and ahead of each batch but the first a circuit that
+//! gives the key fresh shares. A batch of Trivium is 8 bytes. Each call evaluates 64 clocks, and ahead of the first those that make
+//! the state. It draws the coins of its blocks from the tape, and tells the watch of each block.
 //!
 //! After a call that was Ok there are [`Session::written`] bytes to hand out, as many as the call took, in shares: byte k is byte
 //! `k % b` of the block in lane `k / b`, where b is the number of bytes of a block, and [`Session::out_bit`] has the shares of its
@@ -18,6 +19,7 @@
 
 mod keys;
 mod pieces;
+mod runs;
 mod session;
 mod tasks;
 

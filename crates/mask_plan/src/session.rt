@@ -11,16 +11,16 @@ ghost use Rattle.mask_plan.specs.Sessions.{Answers, Begins, batch_length, block_
 
 use crate::keys::shares_of_key;
 use crate::pieces::take_piece;
+use crate::runs::{TaskRun, outputs_of};
 use crate::tasks::{bytes_at_once, place_in_block, run_of};
 use mask_ciphers::lines_share_keys;
 use mask_circuit::Steps;
-use mask_counter::CounterRun;
 use mask_eval::Watch;
 use mask_io::Entropy;
 use mask_keys::KeyLines;
 use mask_shares::Shares;
 use mask_tape::{Tape, TapeError};
-use mask_tasks::{Task, message_limit};
+use mask_tasks::{Task, message_limit, tasks_are_whole};
 use std::alloc::{AllocError, Global};
 use std::marker::Model;
 use std::sync::ledger::Ledger;
@@ -50,7 +50,7 @@ pub enum PlanError {
 pub struct Session<const N: usize> {
     alloc: Global,
     task: Task,
-    run: CounterRun<N>,
+    run: TaskRun<N>,
     fed: u64,
     closed: Option<Stop>,
     ended: bool,
@@ -84,6 +84,7 @@ impl<const N: usize> Session<N> {
         ensures steps { steps.new ≤ steps.old + start_steps (method_of task.now) }
     {
         lines_share_keys();
+        tasks_are_whole(task);
         let shares = shares_of_key::<N>(alloc, task, key)?;
         let run = run_of(alloc, task, &shares, steps)?;
         Ok(Session {
@@ -97,7 +98,8 @@ impl<const N: usize> Session<N> {
         })
     }
 
-    /// How many bytes `feed` takes: 512 for PRESENT, which is 64 blocks of 8 bytes, and 1,024 for LEA, which is 64 blocks of 16.
+    /// How many bytes `feed` takes: 512 for PRESENT, which is 64 blocks of 8 bytes, 1,024 for LEA, which is 64 blocks of 16, and 8 for
+    /// Trivium.
     pub fn batch_bytes(&self) -> usize
         ensures { result ≡ batch_length self.now.task }
     {
@@ -238,7 +240,7 @@ impl<const N: usize> Session<N> {
         requires place { place < 8 }
         ensures { result ≡ out_words self.now byte place }
     {
-        let outputs = self.run.outputs();
+        let outputs = outputs_of(&self.run);
         outputs[place_in_block(&self.task, byte, place)]
     }
 }

@@ -7,11 +7,13 @@ ghost use Rattle.mask_tasks.specs.Sizes.{present_bytes, lea_bytes};
 ghost use Rattle.mask_tasks.specs.Tasks.{key_bytes};
 ghost use Rattle.mask_ciphers.specs.Methods.{start_steps};
 ghost use Rattle.mask_ciphers.specs.Tasks.{method_of, present_mode, lea_mode};
-ghost use Rattle.mask_plan.specs.Sessions.{batch_length, bit_place, block_length};
+ghost use Rattle.mask_plan.specs.Sessions.{batch_length, bit_place, block_length, output_bits};
 ghost use Rattle.mask_plan.specs.Inside.{Begin, BeginsRun};
 
+use crate::runs::TaskRun;
 use mask_circuit::Steps;
 use mask_counter::{BitOrder, CounterRun};
+use mask_keystream::StreamRun;
 use mask_lea::lea_circuit;
 use mask_present::present_circuit;
 use mask_refresh::refresh_circuit;
@@ -27,6 +29,7 @@ pub(crate) fn bytes_at_once(task: &Task) -> usize
     match *task {
         Task::Present { .. } => 512,
         Task::Lea { .. } => 1_024,
+        Task::Trivium { .. } => 8,
     }
 }
 
@@ -35,21 +38,22 @@ pub(crate) fn place_in_block(task: &Task, byte: u32, place: u32) -> usize
     requires byte { byte < block_length task.now }
     requires place { place < 8 }
     ensures value { result ≡ bit_place task.now byte place }
-    ensures bound { result < 8 * block_length task.now }
+    ensures bound { result < output_bits task.now }
 {
     match *task {
         Task::Present { .. } => 8 * (7 - byte as usize) + place as usize,
         Task::Lea { .. } => 8 * byte as usize + place as usize,
+        Task::Trivium { .. } => 288 + (8 * byte as usize + place as usize),
     }
 }
 
-/// A run of the task's cipher with the key whose bits have these shares in lane 0.
+/// A run of the task with the key whose bits have these shares in lane 0.
 pub(crate) fn run_of<const N: usize, L: Ledger>(
     alloc: Global,
     task: &Task,
     key: &[Shares<N>],
     steps: &mut Steps<L>,
-) -> Result<CounterRun<N>, AllocError>
+) -> Result<TaskRun<N>, AllocError>
     requires some { 2 ≤ N }
     requires few { N ≤ 8 }
     requires length { length key.now ≡ 8 * key_bytes task.now }
@@ -57,8 +61,11 @@ pub(crate) fn run_of<const N: usize, L: Ledger>(
     ensures steps { steps.new ≤ steps.old + start_steps (method_of task.now) }
 {
     match *task {
-        Task::Present { size, iv } => present_run(alloc, size, iv, key, steps),
-        Task::Lea { size, iv } => lea_run(alloc, size, iv, key, steps),
+        Task::Present { size, iv } => {
+            Ok(TaskRun::Counter(present_run(alloc, size, iv, key, steps)?))
+        }
+        Task::Lea { size, iv } => Ok(TaskRun::Counter(lea_run(alloc, size, iv, key, steps)?)),
+        Task::Trivium { iv } => Ok(TaskRun::Stream(StreamRun::new(alloc, &iv, key, steps)?)),
     }
 }
 

@@ -1,40 +1,13 @@
-use Rattle.std.proofs.Common.{◌≡◌, ℕ, ◌+◌, ◌^◌, ◌<◌, ◌≤◌, false, length, ap, ◌∙◌, arith}
-use Rattle.std.proofs.Math.Facts.{Fits-lt-pow}
+use Rattle.std.proofs.Common.{◌≡◌, length, arith, subst, sym}
 use Rattle.std.proofs.lemmas.List.{nil_from_length}
-use Rattle.std.proofs.lemmas.List.Elements.{All-from_get_or}
-use Rattle.mask_bits.specs.Reading.{AreBytes}
-use Rattle.mask_trace.specs.Drawing.{stand}
-use Rattle.mask_counter.specs.Batches.{Between, mode}
 use Rattle.mask_ciphers.specs.Tasks.{method_of}
 use Rattle.mask_plan.specs.Sessions.{bit_place}
-use Rattle.mask_plan.proofs.Places.{bits_stand}
-use Rattle.mask_plan.proofs.Taking.{goes_on, nothing_ran, some_block, stopped, took}
+use Rattle.mask_plan.proofs.Taking.{took_none}
 use Rattle.mask_plan.proofs.pieces.take_piece.Goals as goal
 
 pub returns-then-is_empty-clause-took : goal.returns-then-is_empty-clause-took
 returns-then-is_empty-clause-took g c =
-    let method = method_of c.args.task.now in
     let empty : length c.args.piece.now ≡ 0 = grind arith in
-    let none = nil_from_length c.args.piece.now empty in
-    let are : AreBytes c.args.piece.now = All-from_get_or (λ (byte : ℕ). byte < 2 ^ 8) c.args.piece.now 0 (λ i lt. Fits-lt-pow (c.type_inv.piece i)) in
-    took g.row.N method (bit_place c.args.task.now) c.args.run.now c.args.run.now c.args.fed c.args.piece.now c.args.last _ _ c.requires.some
-    (c.tasks_encipher.ensures c.args.task.now) (bits_stand c.args.task.now) c.requires.goes_on
-    (nothing_ran g.row.N c.args.run.now c.args.piece.now _ (some_block g.row.N method c.args.run.now c.args.fed (c.tasks_encipher.ensures c.args.task.now) c.requires.goes_on)
-    none c.kept-kept.ensures.few)
-    are
-
-pub returns-in-Ok-clause-took : goal.returns-in-Ok-clause-took
-returns-in-Ok-clause-took g c =
-    let are : AreBytes c.args.piece.now = All-from_get_or (λ (byte : ℕ). byte < 2 ^ 8) c.args.piece.now 0 (λ i lt. Fits-lt-pow (c.type_inv.piece i)) in
-    took g.row.N (method_of c.args.task.now) (bit_place c.args.task.now) c.args.run.now c.batch.new.self c.args.fed c.args.piece.now c.args.last _ _ c.requires.some
-    (c.tasks_encipher.ensures c.args.task.now) (bits_stand c.args.task.now) c.requires.goes_on c.in-Ok.ensures.ran are
-
-pub returns-in-Ok-clause-goes_on : goal.returns-in-Ok-clause-goes_on
-returns-in-Ok-clause-goes_on g c not_last =
-    goes_on g.row.N (method_of c.args.task.now) c.args.run.now c.batch.new.self c.args.fed c.args.piece.now _ _ c.requires.some
-    (c.tasks_encipher.ensures c.args.task.now) c.requires.goes_on c.in-Ok.ensures.ran c.in-Ok.ensures.done (c.requires.whole not_last)
-
-pub returns-in-Err-clause-stopped : goal.returns-in-Err-clause-stopped
-returns-in-Err-clause-stopped g c failed =
-    stopped g.row.N (method_of c.args.task.now) c.args.run.now c.args.fed c.args.piece.now c.args.last _ _ _ _ _ c.requires.goes_on
-    (c.in-Err.ensures.stopped failed)
+    rw (nil_from_length c.args.piece.now empty)
+    (took_none g.row.N (method_of c.args.task.now) (bit_place c.args.task.now) c.args.run.now c.args.fed c.args.last _
+    (c.tasks_encipher.ensures c.args.task.now c.tasks_are_whole.ensures) c.requires.goes_on c.kept-kept.ensures.few)

@@ -26,5 +26,5 @@ invariant_of-result g c =
       some = c.requires.some;
       within = omega arith;
       by = begins_by method (key_shares task c.args.key.now) c.in_ok-run.run' begin;
-      goes_on = λ o e. begins g.row.N method (key_shares task c.args.key.now) c.in_ok-run.run' (tasks_encipher task) begin lines;
+      goes_on = λ o e. begins g.row.N method (key_shares task c.args.key.now) c.in_ok-run.run' (tasks_encipher task c.tasks_are_whole.ensures) begin lines;
     }

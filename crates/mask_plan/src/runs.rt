@@ -1,0 +1,26 @@
+//! The run inside a session.
+
+ghost use Rattle.std.specs.Prelude.{◌≡◌};
+ghost use Rattle.mask_plan.specs.Inside.{HasOutputs, outputs};
+
+use mask_counter::CounterRun;
+use mask_keystream::StreamRun;
+use mask_shares::Shares;
+
+/// A run of a block cipher in counter mode, or one of Trivium.
+#[derive(Drop)]
+pub enum TaskRun<const N: usize> {
+    Counter(CounterRun<N>),
+    Stream(StreamRun<N>),
+}
+
+/// The words of the latest outputs.
+pub(crate) fn outputs_of<const N: usize>(run: &TaskRun<N>) -> &[Shares<N>]
+    ensures value { result.now ≡ outputs run.now }
+    ensures count { HasOutputs run.now }
+{
+    match run {
+        TaskRun::Counter(run) => run.outputs(),
+        TaskRun::Stream(run) => run.outputs(),
+    }
+}
