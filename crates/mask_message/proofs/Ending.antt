@@ -10,7 +10,7 @@ use Rattle.mask_bits.specs.Reading.{low, bytes_for}
 use Rattle.mask_bits.proofs.Bytes.{length-low}
 use Rattle.mask_io.specs.Outside.{AppendsProperPrefix}
 use Rattle.mask_tasks.specs.declared.tasks.Task.{Task}
-use Rattle.mask_tasks.specs.Tasks.{key_bytes, longest_message}
+use Rattle.mask_tasks.specs.Tasks.{IsTask, key_bytes, longest_message}
 use Rattle.mask_keys.specs.Lines.{joined}
 use Rattle.mask_trace.specs.Steps.{Step, bits_of}
 use Rattle.mask_trace.specs.Values.{values_of}
@@ -77,12 +77,12 @@ part-behind a b c xs ys first (front, (shorter, is), second) = (
 
 -- ENDS
 
-ran_all : (task : Task) (N : ℕ) (lines : List (List ℕ)) (bytes : List ℕ) (steps : List Step) (n : ℕ) (s : Progress) (o : Outside) (kept : List Bool) → 2 ≤ N →
+ran_all : (task : Task) → IsTask task → (N : ℕ) (lines : List (List ℕ)) (bytes : List ℕ) (steps : List Step) (n : ℕ) (s : Progress) (o : Outside) (kept : List Bool) → 2 ≤ N →
     steps ≡ plan task bytes → Behind task N lines steps n s (at_first o) (at_last kept o) → RanAll task N lines bytes o
-ran_all task N lines bytes steps n s o kept some are behind = record {
+ran_all task is N lines bytes steps n s o kept some are behind = record {
   kept = kept;
   part = runs_join.whole N (with_lines task lines) s.held (plan task bytes) (at_first o) (at_last kept o) (rw are at behind.ran);
-  private = runs_are_private N task bytes (length (plan task bytes)) some;
+  private = runs_are_private N task is bytes (length (plan task bytes)) some;
 }
 
 all-drawn : (task : Task) (N : ℕ) (bytes fresh : List ℕ) (a b : Stand) → 2 ≤ N → a.kept ≡ [] → Drew (bits_of N (take (length (plan task bytes)) (plan task bytes))) fresh a b →
@@ -127,7 +127,7 @@ full_or_end n room End few end = go (eq-or-lt_of_le few)
     go (inl all) = inl all
     go (inr less) = inr (end less)
 
-module _ (task : Task) (N : ℕ) (lines : List (List ℕ)) (o : Outside) (kept : List Bool) (some : 2 ≤ N) (cipher : IsCipher (method_of task))
+module _ (task : Task) (N : ℕ) (lines : List (List ℕ)) (o : Outside) (kept : List Bool) (some : 2 ≤ N) (is_task : IsTask task) (cipher : IsCipher (method_of task))
     (front : List ℕ) (s : Progress) (left on : Option (List ℕ)) (steps now : ℕ) (b : Stand)
     (so_far : SoFar task N lines front s o.left_before left o.out_before on steps now (at_first o) b) (begun : steps ≤ o.steps_before + start_steps (method_of task)) where
   -- the message may end behind any bytes
@@ -167,12 +167,12 @@ module _ (task : Task) (N : ℕ) (lines : List (List ℕ)) (o : Outside) (kept :
       Appends on o.out_after (next_output s piece true) → TakesMessage task N lines o Done
   finishes piece s' long taken at_end few more evaluated took written =
       let behind = behind-more task N lines front piece true s (at_first o) b so_far.behind so_far.whole s' (at_last kept o) evaluated took in
-      let ran = ran_all task N lines (front ++ piece) _ _ s' o kept some (sym (plan-goes_on task N lines front piece s (at_first o) b so_far.behind so_far.whole (ends piece))) behind in
+      let ran = ran_all task is_task N lines (front ++ piece) _ _ s' o kept some (sym (plan-goes_on task N lines front piece s (at_first o) b so_far.behind so_far.whole (ends piece))) behind in
       takes piece Done taken
       (record {
         at_end = at_end;
         within = behind.within;
-        written = rw (output-goes_on task N lines front piece s (at_first o) b so_far.behind so_far.whole long (ends piece))
+        written = rw (output-goes_on task N lines front piece s (at_first o) b so_far.behind so_far.whole is_task long (ends piece))
             (Appends-trans o.out_before on o.out_after (fed_output task (joined lines) front) (next_output s piece true) so_far.written written);
         ran = ran;
         drawn = all-drawn task N (front ++ piece) ran.part.ran.fresh (at_first o) (at_last ran.kept o) some refl ran.part.ran.drew;
@@ -189,9 +189,9 @@ module _ (task : Task) (N : ℕ) (lines : List (List ℕ)) (o : Outside) (kept :
       (record {
         whole = inr at_end;
         within = behind.within;
-        written = rw (output-goes_on task N lines front piece s (at_first o) b so_far.behind so_far.whole long (ends piece))
+        written = rw (output-goes_on task N lines front piece s (at_first o) b so_far.behind so_far.whole is_task long (ends piece))
             (part-behind o.out_before on o.out_after (fed_output task (joined lines) front) (next_output s piece true) so_far.written written);
-        ran = ran_all task N lines (front ++ piece) _ _ s' o kept some (sym (plan-goes_on task N lines front piece s (at_first o) b so_far.behind so_far.whole (ends piece))) behind;
+        ran = ran_all task is_task N lines (front ++ piece) _ _ s' o kept some (sym (plan-goes_on task N lines front piece s (at_first o) b so_far.behind so_far.whole (ends piece))) behind;
       })
       (counted-ends piece few (omega arith))
 
@@ -207,9 +207,9 @@ module _ (task : Task) (N : ℕ) (lines : List (List ℕ)) (o : Outside) (kept :
       (record {
         whole = inl (rw (length-append front piece) (batches-more task (length front) (length piece) so_far.whole all));
         within = behind.within;
-        written = rw (← ciphers_go_on.output task cipher (joined lines) (front ++ piece), fed_output-goes_on task N lines front piece s (at_first o) b so_far.behind so_far.whole long all)
+        written = rw (← ciphers_go_on.output task cipher (joined lines) (front ++ piece), fed_output-goes_on task N lines front piece s (at_first o) b so_far.behind so_far.whole is_task long all)
             (part-behind o.out_before on o.out_after (fed_output task (joined lines) front) (next_output s piece false) so_far.written written);
-        ran = ran_all task N lines (front ++ piece) _ _ s' o kept some are behind;
+        ran = ran_all task is_task N lines (front ++ piece) _ _ s' o kept some are behind;
       })
       (counted piece false (omega arith) (λ last. all) (omega arith))
 
@@ -237,7 +237,7 @@ module _ (task : Task) (N : ℕ) (lines : List (List ℕ)) (o : Outside) (kept :
     wrote_batches unwritten idle = record {
       whole = so_far.whole;
       written = subst (λ (out : Option (List ℕ)). Appends o.out_before out (fed_output task (joined lines) front)) unwritten so_far.written;
-      ran = record { kept = kept; part = front-part idle; private = runs_are_private N task bytes (length (fed_steps (method_of task) front)) some };
+      ran = record { kept = kept; part = front-part idle; private = runs_are_private N task is_task bytes (length (fed_steps (method_of task) front)) some };
     }
 
   goes_on : (piece : List ℕ) → plan task (front ++ piece) ≡ fed_steps (method_of task) front ++ next_steps s piece true
@@ -300,7 +300,7 @@ module _ (task : Task) (N : ℕ) (lines : List (List ℕ)) (o : Outside) (kept :
           ran = record {
             kept = kept;
             part = stopped-part;
-            private = runs_are_private N task (front ++ piece) (length (fed_steps (method_of task) front) + stop.count) some;
+            private = runs_are_private N task is_task (front ++ piece) (length (fed_steps (method_of task) front) + stop.count) some;
           };
           holds = omega arith;
           few = omega (arith, stop.few);
@@ -340,20 +340,20 @@ under_task task other N lines o status many same takes =
     subst (λ (n : ℕ). TakesMessage task n lines o status) (sym many) (subst (λ (t : Task). TakesMessage t N lines o status) same takes)
 
 -- a run that ends before it reads
-pub stops_at_start : (task : Task) (N : ℕ) (lines : List (List ℕ)) (o : Outside) → 2 ≤ N → IsCipher (method_of task) → length lines ≡ N →
+pub stops_at_start : (task : Task) (N : ℕ) (lines : List (List ℕ)) (o : Outside) → 2 ≤ N → IsTask task → IsCipher (method_of task) → length lines ≡ N →
     values_of (with_lines task lines) ≡ held_at_first task (joined lines) →
     o.left_after ≡ o.left_before → o.out_before ≡ o.out_after → at_last [] o ≡ at_first o → o.steps_after ≤ o.steps_before + start_steps (method_of task) →
     TakesMessage task (length lines) lines o NoMemory
-stops_at_start task N lines o some cipher many key unread unwritten idle begun =
+stops_at_start task N lines o some is_task cipher many key unread unwritten idle begun =
     let first : Progress = record { task = task; held = with_lines task lines; fed = 0; closed = None; ended = false; written = 0; outputs = [] } in
     let so_far = so_far-none task N lines first o.left_before o.out_before o.steps_after (at_first o) refl refl key in
     under_task task task N lines o NoMemory many refl
-    (takes task N lines o [] some cipher [] first o.left_before o.out_before o.steps_after o.steps_after (at_first o) so_far begun [] NoMemory
+    (takes task N lines o [] some is_task cipher [] first o.left_before o.out_before o.steps_after o.steps_after (at_first o) so_far begun [] NoMemory
     (subst (λ (left : Option (List ℕ)). Consumes o.left_before left []) (sym unread) (Consumes-nil o.left_before))
     ([], [], refl, omega arith,
-      wrote_batches task N lines o [] some cipher [] first o.left_before o.out_before o.steps_after o.steps_after (at_first o) so_far begun []
-      _ (goes_on task N lines o [] some cipher [] first o.left_before o.out_before o.steps_after o.steps_after (at_first o) so_far begun []) unwritten idle)
-    (uncounted task N lines o [] some cipher [] first o.left_before o.out_before o.steps_after o.steps_after (at_first o) so_far begun [] (omega arith) refl))
+      wrote_batches task N lines o [] some is_task cipher [] first o.left_before o.out_before o.steps_after o.steps_after (at_first o) so_far begun []
+      _ (goes_on task N lines o [] some is_task cipher [] first o.left_before o.out_before o.steps_after o.steps_after (at_first o) so_far begun []) unwritten idle)
+    (uncounted task N lines o [] some is_task cipher [] first o.left_before o.out_before o.steps_after o.steps_after (at_first o) so_far begun [] (omega arith) refl))
 
 -- the status says that the tape failed where the refusal does
 pub fault-stop : (stop : Stop) → is_tape_fault (status_of stop) ≡ is_of_tape stop

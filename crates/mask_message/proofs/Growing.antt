@@ -4,7 +4,7 @@ use Rattle.std.proofs.KnownBytes.{Appends-nil, Appends-trans, Consumes-nil, Cons
 use Rattle.std.proofs.Math.Nat.{add-mod_left, zero-mod}
 use Rattle.std.specs.Io.KnownBytes.{Appends, Consumes}
 use Rattle.mask_tasks.specs.declared.tasks.Task.{Task}
-use Rattle.mask_tasks.specs.Tasks.{key_bytes, longest_message}
+use Rattle.mask_tasks.specs.Tasks.{IsTask, key_bytes, longest_message}
 use Rattle.mask_keys.specs.Lines.{joined, line_length}
 use Rattle.mask_trace.specs.Steps.{Registers, Step}
 use Rattle.mask_trace.specs.Values.{value_after, values_of}
@@ -139,16 +139,16 @@ module _ (task : Task) (N : ℕ) (lines : List (List ℕ)) (front piece : List �
       messages_go_on.steps_last task front piece whole ends
       ∙ ap (λ (steps : List Step). fed_steps (method_of task) front ++ steps) (sym (next_steps-are task N lines front piece true s a b behind whole))
 
-  pub fed_output-goes_on : length (joined lines) ≡ key_bytes task → length piece ≡ batch_length task →
+  pub fed_output-goes_on : IsTask task → length (joined lines) ≡ key_bytes task → length piece ≡ batch_length task →
       fed_output task (joined lines) (front ++ piece) ≡ fed_output task (joined lines) front ++ next_output s piece false
-  fed_output-goes_on long all =
-      messages_go_on.output_fed task (joined lines) front piece long whole all
+  fed_output-goes_on is long all =
+      messages_go_on.output_fed task is (joined lines) front piece long whole all
       ∙ ap (λ (bytes : List ℕ). fed_output task (joined lines) front ++ bytes) (sym (next_output-is task N lines front piece false s a b behind whole))
 
-  pub output-goes_on : length (joined lines) ≡ key_bytes task → MayEnd (method_of task) (length front) piece →
+  pub output-goes_on : IsTask task → length (joined lines) ≡ key_bytes task → MayEnd (method_of task) (length front) piece →
       output task (joined lines) (front ++ piece) ≡ fed_output task (joined lines) front ++ next_output s piece true
-  output-goes_on long ends =
-      messages_go_on.output_last task (joined lines) front piece long whole ends
+  output-goes_on is long ends =
+      messages_go_on.output_last task is (joined lines) front piece long whole ends
       ∙ ap (λ (bytes : List ℕ). fed_output task (joined lines) front ++ bytes) (sym (next_output-is task N lines front piece true s a b behind whole))
 
 -- nothing was taken yet
@@ -164,13 +164,13 @@ so_far-none task N lines s left out steps a fresh begins key = record {
 }
 
 -- a batch more
-pub so_far-more : (task : Task) (N : ℕ) (lines : List (List ℕ)) (front piece : List ℕ) (s s' : Progress) (left mid left' out on out' : Option (List ℕ)) (steps now steps' : ℕ) (a b c : Stand) →
+pub so_far-more : (task : Task) (N : ℕ) (lines : List (List ℕ)) (front piece : List ℕ) (s s' : Progress) (left mid left' out on out' : Option (List ℕ)) (steps now steps' : ℕ) (a b c : Stand) → IsTask task →
     SoFar task N lines front s left mid out on steps now a b → Consumes mid left' piece → Evaluated N s s' piece false b c → HasTaken s s' piece false →
     length piece ≡ batch_length task → length (joined lines) ≡ key_bytes task → Appends on out' (next_output s piece false) → steps' ≡ now + gates_for s piece false →
     SoFar task N lines (front ++ piece) s' left left' out out' steps steps' a c
-so_far-more task N lines front piece s s' left mid left' out on out' steps now steps' a b c so_far taken evaluated took all long written more = record {
+so_far-more task N lines front piece s s' left mid left' out on out' steps now steps' a b c is so_far taken evaluated took all long written more = record {
   taken = Consumes-trans left mid left' front piece so_far.taken taken;
-  written = rw (fed_output-goes_on task N lines front piece s a b so_far.behind so_far.whole long all)
+  written = rw (fed_output-goes_on task N lines front piece s a b so_far.behind so_far.whole is long all)
       (Appends-trans out on out' (fed_output task (joined lines) front) (next_output s piece false) so_far.written written);
   whole = rw (length-append front piece) (batches-more task (length front) (length piece) so_far.whole all);
   unended = ap (λ (p : Progress). p.ended) took;

@@ -11,13 +11,14 @@ use Rattle.mask_circuit.proofs.Places.{length-each}
 use Rattle.mask_shares.proofs.Lists.{get_or-each}
 use Rattle.mask_eval.proofs.Shared.{unmasked_in_lane}
 use Rattle.mask_tasks.specs.declared.tasks.Task.{Task}
+use Rattle.mask_tasks.specs.declared.tasks.Task.TheVariants.{Present, Lea, Trivium}
 use Rattle.mask_tasks.specs.Tasks.{key_bytes}
 use Rattle.mask_keys.specs.Lines.{joined, line_length}
 use Rattle.mask_trace.specs.Drawing.{Stand}
 use Rattle.mask_ciphers.specs.Methods.{AreBatches}
 use Rattle.mask_ciphers.specs.Tasks.{method_of}
 use Rattle.mask_ciphers.proofs.Writing.{pieces_are_written}
-use Rattle.mask_plan.specs.Sessions.{Progress, HandsOut, block_length, next_output, out_words}
+use Rattle.mask_plan.specs.Sessions.{Progress, HandsOut, batch_length, block_length, next_output, out_words}
 use Rattle.mask_message.proofs.Growing.{BehindBatches, next_output-is}
 
 -- the bits of byte `byte` of the block in a lane
@@ -90,3 +91,16 @@ module _ (task : Task) (N : ℕ) (lines : List (List ℕ)) (front piece : List �
   pub due : (X : List ℕ → Type 0) (n : ℕ) (s' : Progress) → length piece ≡ n → AreBytes piece → HandsOut s' (next_output s piece last) →
       ((bytes : List ℕ) → length bytes ≡ n → AreBytes bytes → HandsOut s' bytes → X bytes) → X (next_output s piece last)
   due X n s' size are hands all = all (next_output s piece last) (next-long ∙ size) (next-bytes are) hands
+
+-- LANES
+
+-- a batch has no more than 64 blocks
+pub few_blocks : (task : Task) → batch_length task ≤ 64 * block_length task
+few_blocks (Present size iv) = omega arith
+few_blocks (Lea size iv) = omega arith
+few_blocks (Trivium iv) = omega arith
+
+pub some_block : (task : Task) → 0 < block_length task
+some_block (Present size iv) = omega arith
+some_block (Lea size iv) = omega arith
+some_block (Trivium iv) = omega arith

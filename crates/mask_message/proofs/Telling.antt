@@ -4,7 +4,7 @@ use Rattle.std.proofs.lemmas.List.{length-replicate}
 use Rattle.std.proofs.lemmas.List.Elements.{All-nil, All-take}
 use Rattle.mask_bits.specs.Reading.{low}
 use Rattle.mask_tasks.specs.declared.tasks.Task.{Task}
-use Rattle.mask_tasks.specs.Tasks.{key_bytes}
+use Rattle.mask_tasks.specs.Tasks.{IsTask, key_bytes}
 use Rattle.mask_eval.specs.Watching.{Told}
 use Rattle.mask_trace.specs.Steps.{bits_of}
 use Rattle.mask_trace.specs.Traces.{trace}
@@ -26,7 +26,7 @@ use Rattle.mask_ciphers.proofs.Joining.{lines_share_keys}
 pub tells_nothing : (N : ℕ) (before now : Option (List Told)) → now ≡ before → TellsStrongCalls N before now
 tells_nothing N before now same = ([], same ∙ told_more-none before, All-nil (IsStrongEvaluation N))
 
-module _ (task : Task) (N : ℕ) (lines : List (List ℕ)) (o : Outside) (some : 2 ≤ N) (many : length lines ≡ N) where
+module _ (task : Task) (N : ℕ) (lines : List (List ℕ)) (o : Outside) (some : 2 ≤ N) (is_task : IsTask task) (many : length lines ≡ N) where
   steps_tell : (bytes : List ℕ) (count : ℕ) → RanSteps task N lines bytes count o → TellsStrongCalls N o.told_before o.told_after
   steps_tell bytes count ran =
       let steps = plan task bytes in
@@ -38,7 +38,7 @@ module _ (task : Task) (N : ℕ) (lines : List (List ℕ)) (o : Outside) (some :
         take count (trace N held steps tape),
         parts_are_beginnings N held steps count (at_first o) (at_last ran.kept o) ran.part more,
         All-take (IsStrongEvaluation N) count (trace N held steps tape)
-            (traces_are_evaluations N (8 * key_bytes task) 0 held steps tape (omega arith) (plans_are_strong task bytes) has enough),
+            (traces_are_evaluations N (8 * key_bytes task) 0 held steps tape (omega arith) (plans_are_strong task is_task bytes) has enough),
       )
 
   -- whatever the status

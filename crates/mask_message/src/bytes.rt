@@ -29,7 +29,7 @@ pub(crate) fn hand_out<const N: usize, O: Sink>(
         AppendsProperPrefix (O.written out.old) (O.written out.new) bytes) }
     ensures counts { O.faults out.new ≡ faults_after (is_err result) (O.faults out.old) }
 {
-    let block = session.batch_bytes() / 64;
+    let block = session.block_bytes();
     unmask_bytes(session, block, room);
     match write_all(out, room) {
         Ok(()) => Ok(()),

@@ -3,7 +3,7 @@
 ghost use Rattle.std.specs.Prelude.{◌≡◌, ℕ, ◌+◌, ◌≤◌, false, None, List, length, IfErr, OnOk, MatchResult};
 ghost use Rattle.std.specs.declared.option.Option.{Option};
 ghost use Rattle.mask_io.specs.Outside.{faults_after};
-ghost use Rattle.mask_tasks.specs.Tasks.{key_bytes};
+ghost use Rattle.mask_tasks.specs.Tasks.{IsTask, key_bytes};
 ghost use Rattle.mask_keys.specs.Lines.{AreKeyLines, line_length};
 ghost use Rattle.mask_bits.specs.Reading.{AreBytes};
 ghost use Rattle.mask_trace.specs.Drawing.{stand};
@@ -26,6 +26,7 @@ use mask_keys::KeyLines;
 use mask_plan::{PlanError, Session, Stop, Task};
 use mask_status::Status;
 use mask_tape::Tape;
+use mask_tasks::tasks_are_whole;
 use std::alloc::Global;
 use std::sync::ledger::Ledger;
 
@@ -70,6 +71,7 @@ pub(crate) fn stream<const N: usize, S: Source, E: Entropy, O: Sink, W: Watch, L
     ensures out_faults { O.faults out.new ≡ faults_after (is_write_fault result) (O.faults out.old) }
     ensures wants { result ≡ Status.TapeFault → 1 ≤ E.wanted entropy.new }
 {
+    tasks_are_whole(task);
     let mut session = match Session::<N>::start(alloc, task, lines, steps) {
         Ok(session) => session,
         Err(_) => return Status::NoMemory,
@@ -103,6 +105,7 @@ fn encrypt_batches<const N: usize, S: Source, E: Entropy, O: Sink, W: Watch, L: 
 ) -> Status
     requires some { 2 ≤ N }
     requires few { N ≤ 8 }
+    requires whole_task { IsTask session.old.task }
     requires cipher { IsCipher (method_of session.old.task) }
     requires unclosed { session.old.closed ≡ None }
     requires unended { session.old.ended ≡ false }

@@ -12,7 +12,7 @@ ghost use Rattle.mask_plan.specs.Sessions.{Answers, Begins, batch_length, block_
 use crate::keys::shares_of_key;
 use crate::pieces::take_piece;
 use crate::runs::{TaskRun, outputs_of};
-use crate::tasks::{bytes_at_once, place_in_block, run_of};
+use crate::tasks::{bytes_at_once, bytes_of_block, place_in_block, run_of};
 use mask_ciphers::lines_share_keys;
 use mask_circuit::Steps;
 use mask_eval::Watch;
@@ -159,6 +159,13 @@ impl<const N: usize> Session<N> {
         ensures counts { E.faults entropy.new ≡ faults_after (failed_to_draw result) (E.faults entropy.old) }
     {
         self.take(piece, true, tape, entropy, watch, steps)
+    }
+
+    /// How many bytes a block has that is handed out: 8 for PRESENT and Trivium, and 16 for LEA.
+    pub fn block_bytes(&self) -> usize
+        ensures { result ≡ block_length self.now.task }
+    {
+        bytes_of_block(&self.task)
     }
 
     // Takes these bytes, the last of the message or not.

@@ -33,6 +33,16 @@ pub(crate) fn bytes_at_once(task: &Task) -> usize
     }
 }
 
+/// How many bytes a block has.
+pub(crate) fn bytes_of_block(task: &Task) -> usize
+    ensures { result ≡ block_length task.now }
+{
+    match *task {
+        Task::Present { .. } | Task::Trivium { .. } => 8,
+        Task::Lea { .. } => 16,
+    }
+}
+
 /// Where a block has bit `place` of its byte `byte`.
 pub(crate) fn place_in_block(task: &Task, byte: u32, place: u32) -> usize
     requires byte { byte < block_length task.now }

@@ -3,6 +3,7 @@ use Rattle.std.proofs.Common.{◌≡◌, ℕ, zero, suc, ◌+◌, ◌*◌, ◌<�
 use Rattle.std.proofs.lemmas.List.{append_assoc, length-take, length-take-le, take-append-le}
 use Rattle.mask_bits.specs.Reading.{low}
 use Rattle.mask_tasks.specs.declared.tasks.Task.{Task}
+use Rattle.mask_tasks.specs.Tasks.{IsTask}
 use Rattle.mask_eval.specs.Watching.{told_more}
 use Rattle.mask_trace.specs.Steps.{Registers, Step, bits_of}
 use Rattle.mask_trace.specs.Traces.{BitShares, after, trace}
@@ -57,8 +58,8 @@ module _ (task : Task) (cipher : IsCipher (method_of task)) (front : List ℕ) (
 -- THE SAME RUN
 
 -- nothing ran yet
-pub nothing-ran : (task : Task) (N : ℕ) (lines : List (List ℕ)) (message : List ℕ) (o : Outside) → 2 ≤ N → at_last [] o ≡ at_first o → RanSteps task N lines message 0 o
-nothing-ran task N lines message o some idle =
+pub nothing-ran : (task : Task) (N : ℕ) (lines : List (List ℕ)) (message : List ℕ) (o : Outside) → 2 ≤ N → IsTask task → at_last [] o ≡ at_first o → RanSteps task N lines message 0 o
+nothing-ran task N lines message o some is idle =
     let held : Registers BitShares = with_lines task lines in
     record {
       kept = [];
@@ -67,10 +68,10 @@ nothing-ran task N lines message o some idle =
         now = held;
         ran = subst (Ran N held [] held (at_first o)) (sym idle) (runs_join.none N held (at_first o) (omega arith));
       };
-      private = runs_are_private N task message 0 some;
+      private = runs_are_private N task is message 0 some;
     }
 
-module _ (task : Task) (N : ℕ) (lines : List (List ℕ)) (bytes message : List ℕ) (count : ℕ) (o : Outside) (some : 2 ≤ N) (ran : RanSteps task N lines bytes count o) where
+module _ (task : Task) (N : ℕ) (lines : List (List ℕ)) (bytes message : List ℕ) (count : ℕ) (o : Outside) (some : 2 ≤ N) (is : IsTask task) (ran : RanSteps task N lines bytes count o) where
   pub no-more : take count (plan task bytes) ≡ take count (plan task message) → count ≤ length (plan task message)
   no-more same = omega (arith, ap length same, length-take-le count (plan task bytes) ran.part.within, length-take count (plan task message))
 
@@ -93,5 +94,5 @@ module _ (task : Task) (N : ℕ) (lines : List (List ℕ)) (bytes message : List
             holds = subst (λ (steps : List Step). ran.part.now ≡ after N held steps (a.kept ++ low r.fresh)) same r.holds;
           };
         };
-        private = runs_are_private N task message count some;
+        private = runs_are_private N task is message count some;
       }

@@ -1,13 +1,14 @@
 -- How many steps and random bits a message takes.
-use Rattle.std.proofs.Common.{◌≡◌, ℕ, suc, ◌+◌, ◌-◌, ◌*◌, ◌/◌, ◌%◌, ◌≤◌, Bool, true, false, not, ◌&&◌, ◌==◌, cond, List, [], ◌∷◌, length, refl, ap, arith, eqb-true, length-append}
+use Rattle.std.proofs.Common.{◌≡◌, ℕ, zero, suc, ◌+◌, ◌-◌, ◌*◌, ◌/◌, ◌%◌, ◌≤◌, Bool, true, false, not, ◌&&◌, ◌==◌, cond, List, [], ◌∷◌, length, refl, ap, arith, eqb-true, length-append}
 use Rattle.std.proofs.lemmas.Bool.{eqb-false}
 use Rattle.std.proofs.Math.Nat.{mul-le-mul_right}
 use Rattle.mask_circuit.proofs.Places.{length-each}
 use Rattle.mask_tasks.specs.declared.tasks.Task.{Task}
-use Rattle.mask_tasks.specs.declared.tasks.Task.TheVariants.{Present, Lea}
+use Rattle.mask_tasks.specs.declared.tasks.Task.TheVariants.{Present, Lea, Trivium}
 use Rattle.mask_parts.specs.CipherCircuits.{gate_bits}
 use Rattle.mask_modes.specs.CounterMode.{block_count}
 use Rattle.mask_modes.specs.Steps.{Mode, ahead_of, block_at, block_step, blocks, refresh_step, steps_from, steps_of}
+use Rattle.mask_streams.specs.Streams.{stream_bits}
 use Rattle.mask_ciphers.specs.Methods.{IsCipher}
 use Rattle.mask_ciphers.specs.Tasks.{method_of}
 use Rattle.mask_ciphers.specs.Totals.{counter_bits, total}
@@ -54,8 +55,15 @@ counter_bits-grow b gates refreshes d m n le =
     let more : (m + 63) / 64 - 1 ≤ (n + 63) / 64 - 1 = omega arith in
     omega (arith, mul-le-mul_right (d * b + gates * gate_bits d) le, mul-le-mul_right (refreshes * gate_bits d) more)
 
+stream_bits-grow : (d m n : ℕ) → m ≤ n → stream_bits d m ≤ stream_bits d n
+unfolding stream_bits
+stream_bits-grow d zero n le = omega arith
+stream_bits-grow d (suc m) zero le = absurd (omega arith)
+stream_bits-grow d (suc m) (suc n) le = omega (arith, mul-le-mul_right (64 * d + 736 * gate_bits d) le)
+
 -- a longer message that is encrypted takes no fewer
 pub totals_grow : (task : Task) → IsCipher (method_of task) → (d m n : ℕ) → m ≤ n → total task d m ≤ total task d n
 unfolding total
 totals_grow (Present size iv) is d m n le = counter_bits-grow 64 _ _ d ((m + 7) / 8) ((n + 7) / 8) (omega arith)
 totals_grow (Lea size iv) is d m n le = counter_bits-grow 128 _ _ d ((m + 15) / 16) ((n + 15) / 16) (omega arith)
+totals_grow (Trivium iv) is d m n le = stream_bits-grow d ((m + 7) / 8) ((n + 7) / 8) (omega arith)

@@ -7,7 +7,7 @@ use Rattle.mask_tasks.specs.declared.tasks.Task.{Task}
 use Rattle.mask_circuit.specs.Ring.{words}
 use Rattle.mask_circuit.specs.Sharing.{unmasked}
 use Rattle.mask_circuit.proofs.Places.{length-each}
-use Rattle.mask_tasks.specs.Tasks.{key_bytes, longest_message}
+use Rattle.mask_tasks.specs.Tasks.{IsTask, key_bytes, longest_message}
 use Rattle.mask_keys.specs.Lines.{joined, line_length}
 use Rattle.mask_ciphers.specs.Methods.{AreBatches, IsCipher, fed_steps}
 use Rattle.mask_ciphers.specs.Tasks.{method_of, output, plan}
@@ -29,7 +29,7 @@ use Rattle.mask_self.proofs.Counting.{totals_grow}
 all-taken : (bytes rest message : List ℕ) → message ≡ bytes ++ rest → rest ≡ [] → bytes ≡ message
 all-taken bytes rest message came none = sym (came ∙ ap (λ (r : List ℕ). bytes ++ r) none ∙ append-nil bytes)
 
-module _ (task : Task) (cipher : IsCipher (method_of task)) (N : ℕ) (lines : List (List ℕ)) (message bytes rest : List ℕ) (o : Outside) (some : 2 ≤ N) (came : message ≡ bytes ++ rest) (left : o.left_after ≡ Some rest) where
+module _ (task : Task) (is : IsTask task) (cipher : IsCipher (method_of task)) (N : ℕ) (lines : List (List ℕ)) (message bytes rest : List ℕ) (o : Outside) (some : 2 ≤ N) (came : message ≡ bytes ++ rest) (left : o.left_after ≡ Some rest) where
   none-left : IsAtEnd o.left_after → rest ≡ []
   none-left at_end = subst IsAtEnd left at_end
 
@@ -56,10 +56,10 @@ module _ (task : Task) (cipher : IsCipher (method_of task)) (N : ℕ) (lines : L
   ran-whole : AreBatches (method_of task) (length bytes) ⊎ IsAtEnd o.left_after → run.RanAll task N lines bytes o → BreaksOff task N lines message o
   ran-whole (inl whole) ran =
       let count = length (plan task bytes) in
-      (count, carried task N lines bytes message count o some ran (same-plan task cipher bytes whole rest count (omega arith) ∙ ap (λ (bs : List ℕ). take count (plan task bs)) (sym came)))
+      (count, carried task N lines bytes message count o some is ran (same-plan task cipher bytes whole rest count (omega arith) ∙ ap (λ (bs : List ℕ). take count (plan task bs)) (sym came)))
   ran-whole (inr end) ran =
       let count = length (plan task bytes) in
-      (count, carried task N lines bytes message count o some ran (ap (λ (bs : List ℕ). take count (plan task bs)) (all-taken bytes rest message came (none-left end))))
+      (count, carried task N lines bytes message count o some is ran (ap (λ (bs : List ℕ). take count (plan task bs)) (all-taken bytes rest message came (none-left end))))
 
   -- the tape failed
   pub fails_to_draw : run.FailsToDraw task N lines bytes o → FailsToDraw task N lines message o
@@ -72,7 +72,7 @@ module _ (task : Task) (cipher : IsCipher (method_of task)) (N : ℕ) (lines : L
       let longer : length bytes ≤ length message = omega (arith, ap length came, length-append bytes rest) in
       record {
         count = e.count;
-        ran = carried task N lines bytes message e.count o some e.ran same;
+        ran = carried task N lines bytes message e.count o some is e.ran same;
         wanted = e.wanted;
         within = omega (arith, e.within, totals_grow task cipher (pred N) (length bytes) (length message) longer);
       }
@@ -85,7 +85,7 @@ module _ (task : Task) (cipher : IsCipher (method_of task)) (N : ℕ) (lines : L
       let here : first bytes = subst first (sym split) (same-whole task cipher front e.whole more count (omega arith)) in
       let there : first message
       = subst first (sym (came ∙ ap (λ (bs : List ℕ). bs ++ rest) split ∙ append_assoc front more rest)) (same-whole task cipher front e.whole (more ++ rest) count (omega arith)) in
-      (count, carried task N lines bytes message count o some e.ran (sym here ∙ there))
+      (count, carried task N lines bytes message count o some is e.ran (sym here ∙ there))
 
   -- every other status but Done is want of memory: the message isn't too long, and its source never fails
   pub breaks_off : length message ≤ longest_message task → (status : Status) → (status ≡ Done → ⊥) → (status ≡ TapeFault → ⊥) → is_read_fault status ≡ false →

@@ -3,7 +3,7 @@
 ghost use Rattle.std.specs.Prelude.{◌≡◌, ℕ, suc, ◌+◌, ◌^◌, ◌≤◌, List, length, IfOk, MatchResult};
 ghost use Rattle.std.specs.declared.option.Option.{Option};
 ghost use Rattle.mask_io.specs.Outside.{faults_after};
-ghost use Rattle.mask_tasks.specs.Tasks.{key_bytes, longest_message};
+ghost use Rattle.mask_tasks.specs.Tasks.{IsTask, key_bytes, longest_message};
 ghost use Rattle.mask_keys.specs.Lines.{AreKeyLines, joined, line_length};
 ghost use Rattle.mask_ciphers.specs.Methods.{IsCipher};
 ghost use Rattle.mask_ciphers.specs.Tasks.{method_of, output};
@@ -106,6 +106,7 @@ fn sum_of_run<E: Entropy, W: Watch, L: Ledger>(
 ) -> Result<[u8; 16], Status>
     requires some { 1 ≤ order }
     requires few { order ≤ 7 }
+    requires whole_task { IsTask task.now }
     requires cipher { IsCipher (method_of task.now) }
     requires count { length lines.now ≡ order + 1 }
     requires shape { AreKeyLines lines.now }

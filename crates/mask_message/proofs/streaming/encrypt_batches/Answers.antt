@@ -26,7 +26,7 @@ pub returns-in-Err-clause-ends : goal.returns-in-Err-clause-ends
 returns-in-Err-clause-ends g c lines has before after steps begun =
     let so_far = c.batches.invariant.so_far lines has in
     let part = c.in-Err.ensures.part in
-    stops_reading c.args.session.now.task g.row.N lines _ c.batches.tape c.requires.some c.requires.cipher so_far.0 c.batches.session _ _ _ _ _ so_far.1 begun part.0 part.1 (omega (arith, part.2)) refl refl refl
+    stops_reading c.args.session.now.task g.row.N lines _ c.batches.tape c.requires.some c.requires.whole_task c.requires.cipher so_far.0 c.batches.session _ _ _ _ _ so_far.1 begun part.0 part.1 (omega (arith, part.2)) refl refl refl
 
 pub returns-in-Err-advance-clause-ends : goal.returns-in-Err-advance-clause-ends
 returns-in-Err-advance-clause-ends g c lines has before after steps begun =
@@ -34,7 +34,7 @@ returns-in-Err-advance-clause-ends g c lines has before after steps begun =
     let piece : List ℕ = take c.in-Ok.count c.read_full.new.buf in
     let size : length piece ≡ c.in-Ok.count = length-take-le c.in-Ok.count c.read_full.new.buf (omega (arith, c.in-Ok.ensures.bound)) in
     rw c.status_of.ensures
-    (refused c.args.session.now.task g.row.N lines _ c.advance.new.tape c.requires.some c.requires.cipher so_far.0 c.batches.session _ _ _ _ _ so_far.1 begun piece _ c.in-Err-advance.stop
+    (refused c.args.session.now.task g.row.N lines _ c.advance.new.tape c.requires.some c.requires.whole_task c.requires.cipher so_far.0 c.batches.session _ _ _ _ _ so_far.1 begun piece _ c.in-Err-advance.stop
     c.in-Ok.ensures.taken (omega (arith, c.in-Ok.ensures.bound)) (λ not_last. grind (arith, c.in-Ok.ensures.bound, size)) refl c.in-Err-advance.ensures.refused)
 
 pub returns-in-Err-hand_out-clause-ends : goal.returns-in-Err-hand_out-clause-ends
@@ -44,7 +44,7 @@ returns-in-Err-hand_out-clause-ends g c lines has before after steps begun =
     let size : length piece ≡ c.in-Ok.count = length-take-le c.in-Ok.count c.read_full.new.buf (omega (arith, c.in-Ok.ensures.bound)) in
     let room = length-take-le c.in-Ok.count c.batches.room (omega (arith, c.in-Ok.ensures.bound)) in
     let long = joined-long c.args.session.now.task lines has.long in
-    cuts_off_at c.args.session.now.task g.row.N lines _ c.advance.new.tape c.requires.some c.requires.cipher so_far.0 c.batches.session _ _ _ _ _ so_far.1 begun piece _ c.advance.new.session
+    cuts_off_at c.args.session.now.task g.row.N lines _ c.advance.new.tape c.requires.some c.requires.whole_task c.requires.cipher so_far.0 c.batches.session _ _ _ _ _ so_far.1 begun piece _ c.advance.new.session
     (λ last. c.in-Ok.ensures.end (grind (arith, size))) (λ not_last. grind (arith, c.in-Ok.ensures.bound, size)) (omega (arith, c.in-Ok.ensures.bound)) long
     c.in-Ok.ensures.taken c.in-Ok-advance.ensures.counted c.in-Ok-advance.ensures.evaluated c.in-Ok-advance.ensures.now
     (due c.args.session.now.task g.row.N lines so_far.0 piece _ c.batches.session _ _ so_far.1.behind so_far.1.whole long
@@ -62,7 +62,7 @@ returns-then-last-clause-ends g c lines has before after steps begun =
     let steps_are = rw last at c.in-Ok-advance.ensures.counted in
     let evaluated = rw last at c.in-Ok-advance.ensures.evaluated in
     let took = rw last at c.in-Ok-advance.ensures.now in
-    finishes c.args.session.now.task g.row.N lines _ c.advance.new.tape c.requires.some c.requires.cipher so_far.0 c.batches.session _ _ _ _ _ so_far.1 begun piece c.advance.new.session long
+    finishes c.args.session.now.task g.row.N lines _ c.advance.new.tape c.requires.some c.requires.whole_task c.requires.cipher so_far.0 c.batches.session _ _ _ _ _ so_far.1 begun piece c.advance.new.session long
     c.in-Ok.ensures.taken (c.in-Ok.ensures.end (grind (arith, size, c.if-last.true))) (omega (arith, c.in-Ok.ensures.bound)) steps_are evaluated took
     (due c.args.session.now.task g.row.N lines so_far.0 piece true c.batches.session _ _ so_far.1.behind so_far.1.whole long
     (λ (bytes : List ℕ). Appends (g.O.Sink.written c.batches.out) (g.O.Sink.written c.hand_out.new.out) bytes) _ c.advance.new.session
@@ -83,7 +83,7 @@ batches-preserved g c =
           let so_far = c.batches.invariant.so_far lines has in
           let long = joined-long c.args.session.now.task lines has.long in (
             so_far.0 ++ piece,
-            so_far-more c.args.session.now.task g.row.N lines so_far.0 piece c.batches.session c.advance.new.session _ _ _ _ _ _ _ _ _ _ _ _ so_far.1
+            so_far-more c.args.session.now.task g.row.N lines so_far.0 piece c.batches.session c.advance.new.session _ _ _ _ _ _ _ _ _ _ _ _ c.requires.whole_task so_far.1
                 c.in-Ok.ensures.taken evaluated now all long
                 (due c.args.session.now.task g.row.N lines so_far.0 piece false c.batches.session _ _ so_far.1.behind so_far.1.whole long
                 (λ (bytes : List ℕ). Appends (g.O.Sink.written c.batches.out) (g.O.Sink.written c.hand_out.new.out) bytes) _ c.advance.new.session

@@ -9,7 +9,7 @@ use Rattle.mask_message.proofs.streaming.stream.Goals as goal
 
 pub returns-in-Err-clause-ends : goal.returns-in-Err-clause-ends
 returns-in-Err-clause-ends g c before after =
-    stops_at_start c.args.task.now g.row.N c.args.lines.now _ c.requires.some (all_are_ciphers c.args.task.now) c.requires.count
+    stops_at_start c.args.task.now g.row.N c.args.lines.now _ c.requires.some c.tasks_are_whole.ensures (all_are_ciphers c.args.task.now) c.requires.count
     (lines_share_keys.joins c.args.task.now c.args.lines.now c.requires.shape c.requires.length) refl refl refl c.start.ensures.steps
 
 pub returns-clause-ends : goal.returns-clause-ends
@@ -24,7 +24,7 @@ returns-clause-ends g c before after =
 pub returns-clause-secure : goal.returns-clause-secure
 returns-clause-secure g c =
     let takes = returns-clause-ends g c None None in
-    streams_tell c.args.task.now (length c.args.lines.now) c.args.lines.now _ (omega (arith, c.requires.some, c.requires.count)) refl takes.bytes c.encrypt_batches.result takes.streams
+    streams_tell c.args.task.now (length c.args.lines.now) c.args.lines.now _ (omega (arith, c.requires.some, c.requires.count)) c.tasks_are_whole.ensures refl takes.bytes c.encrypt_batches.result takes.streams
 
 pub returns-clause-wants : goal.returns-clause-wants
 returns-clause-wants g c is =

@@ -12,7 +12,7 @@ use Rattle.mask_self.proofs.running.sum_of_run.Goals as goal
 
 pub returns-in-Err-clause-ends : goal.returns-in-Err-clause-ends
 returns-in-Err-clause-ends g c keys_before keys_after left_before left_after out_before out_after =
-    (0, nothing-ran c.args.task.now (length c.args.lines.now) c.args.lines.now (bytes_from c.args.generator 0 c.args.count) _ (omega (arith, c.requires.count, c.requires.some)) refl)
+    (0, nothing-ran c.args.task.now (length c.args.lines.now) c.args.lines.now (bytes_from c.args.generator 0 c.args.count) _ (omega (arith, c.requires.count, c.requires.some)) c.requires.whole_task refl)
 
 pub sum_of_blocks-requires : goal.sum_of_blocks-requires
 sum_of_blocks-requires g c =
@@ -20,7 +20,7 @@ sum_of_blocks-requires g c =
     let message = bytes_from c.args.generator 0 c.args.count in
     let written : c.bytes.result.now ≡ output c.args.task.now (joined c.args.lines.now) message
     = c.bytes.ensures
-    ∙ ciphertext c.args.task.now c.requires.cipher (length c.args.lines.now) c.args.lines.now message takes.bytes c.encrypt_message-status.new.input _
+    ∙ ciphertext c.args.task.now c.requires.whole_task c.requires.cipher (length c.args.lines.now) c.args.lines.now message takes.bytes c.encrypt_message-status.new.input _
     (omega (arith, c.requires.count, c.requires.some)) (sym c.new-message.ensures ∙ takes.taken) refl takes.streams _ (ap (λ (k : Kept). Some k.bytes) c.in-Ok.ensures) refl in
     omega (arith, ap length written, length-output c.args.task.now c.args.lines.now message c.requires.length, length-bytes_from c.args.generator 0 c.args.count)
 
@@ -30,7 +30,7 @@ returns-in-Done-clause-sum g c =
     let message = bytes_from c.args.generator 0 c.args.count in
     let written : c.bytes.result.now ≡ output c.args.task.now (joined c.args.lines.now) message
     = c.bytes.ensures
-    ∙ ciphertext c.args.task.now c.requires.cipher (length c.args.lines.now) c.args.lines.now message takes.bytes c.encrypt_message-status.new.input _
+    ∙ ciphertext c.args.task.now c.requires.whole_task c.requires.cipher (length c.args.lines.now) c.args.lines.now message takes.bytes c.encrypt_message-status.new.input _
     (omega (arith, c.requires.count, c.requires.some)) (sym c.new-message.ensures ∙ takes.taken) refl takes.streams _ (ap (λ (k : Kept). Some k.bytes) c.in-Ok.ensures) refl in
     c.sum_of_blocks.ensures ∙ ap sum_of_blocks written
 
@@ -38,14 +38,14 @@ pub returns-in-Done-clause-ends : goal.returns-in-Done-clause-ends
 returns-in-Done-clause-ends g c keys_before keys_after left_before left_after out_before out_after =
     let takes = c.in-Done.ensures.ends None None in
     whole_elsewhere c.args.task.now (length c.args.lines.now) c.args.lines.now (bytes_from c.args.generator 0 c.args.count) _ keys_before keys_after left_before left_after out_before out_after
-    (runs_whole c.args.task.now c.requires.cipher (length c.args.lines.now) c.args.lines.now (bytes_from c.args.generator 0 c.args.count) takes.bytes c.encrypt_message-status.new.input _
+    (runs_whole c.args.task.now c.requires.whole_task c.requires.cipher (length c.args.lines.now) c.args.lines.now (bytes_from c.args.generator 0 c.args.count) takes.bytes c.encrypt_message-status.new.input _
     (omega (arith, c.requires.count, c.requires.some)) (sym c.new-message.ensures ∙ takes.taken) refl takes.streams)
 
 pub returns-in-TapeFault-clause-ends : goal.returns-in-TapeFault-clause-ends
 returns-in-TapeFault-clause-ends g c keys_before keys_after left_before left_after out_before out_after =
     let takes = c.in-TapeFault.ensures.ends None None in
     draws_elsewhere c.args.task.now (length c.args.lines.now) c.args.lines.now (bytes_from c.args.generator 0 c.args.count) _ keys_before keys_after left_before left_after out_before out_after
-    (fails_to_draw c.args.task.now c.requires.cipher (length c.args.lines.now) c.args.lines.now (bytes_from c.args.generator 0 c.args.count) takes.bytes c.encrypt_message-status.new.input _
+    (fails_to_draw c.args.task.now c.requires.whole_task c.requires.cipher (length c.args.lines.now) c.args.lines.now (bytes_from c.args.generator 0 c.args.count) takes.bytes c.encrypt_message-status.new.input _
     (omega (arith, c.requires.count, c.requires.some)) (sym c.new-message.ensures ∙ takes.taken) refl takes.streams)
 
 pub returns-clause-ends : goal.returns-clause-ends
@@ -54,7 +54,7 @@ returns-clause-ends g c keys_before keys_after left_before left_after out_before
     let message = bytes_from c.args.generator 0 c.args.count in
     let short : length message ≤ longest_message c.args.task.now = omega (arith, c.requires.limit, length-bytes_from c.args.generator 0 c.args.count) in
     breaks_elsewhere c.args.task.now (length c.args.lines.now) c.args.lines.now message _ keys_before keys_after left_before left_after out_before out_after
-    (breaks_off c.args.task.now c.requires.cipher (length c.args.lines.now) c.args.lines.now message takes.bytes c.encrypt_message-status.new.input _
+    (breaks_off c.args.task.now c.requires.whole_task c.requires.cipher (length c.args.lines.now) c.args.lines.now message takes.bytes c.encrypt_message-status.new.input _
     (omega (arith, c.requires.count, c.requires.some)) (sym c.new-message.ensures ∙ takes.taken) refl short c.encrypt_message-status.result c.in_default.not-Done c.in_default.not-TapeFault
     (never_fails c.encrypt_message-status.result c.encrypt_message-status.ensures.input_faults) takes.streams)
 
