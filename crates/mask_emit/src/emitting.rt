@@ -7,15 +7,18 @@ ghost use Rattle.mask_parts.specs.CipherCircuits.{IsCipherCircuit};
 ghost use Rattle.mask_status.specs.Ends.{ComesBeforeWriting, is_write_fault};
 ghost use Rattle.mask_emit.specs.Emitting.{named, sizes, computed, Emits};
 
+use mask_chaskey::{chaskey_end_short, chaskey_end_whole, chaskey_step};
 use mask_check::Strong;
 use mask_circuit::Steps;
 use mask_io::Sink;
 use mask_lea::{LeaSize, lea_circuit};
+use mask_lightmac::{lightmac_end, lightmac_step};
 use mask_present::{KeySize, present_circuit};
 use mask_refresh::refresh_circuit;
 use mask_status::Status;
 use mask_tasks::Named;
 use mask_text::write_circuit;
+use mask_trivium::{trivium_start, trivium_step};
 use std::alloc::{AllocError, Global};
 use std::sync::ledger::Ledger;
 
@@ -62,5 +65,15 @@ fn built<L: Ledger>(
         Named::Refresh128 => refresh_circuit(alloc, 128, steps),
         Named::Refresh192 => refresh_circuit(alloc, 192, steps),
         Named::Refresh256 => refresh_circuit(alloc, 256, steps),
+        Named::TriviumStart => trivium_start(alloc, steps),
+        Named::TriviumStep => trivium_step(alloc, steps),
+        Named::LightmacStep80 => lightmac_step(alloc, KeySize::K80, steps),
+        Named::LightmacEnd80 => lightmac_end(alloc, KeySize::K80, steps),
+        Named::LightmacStep128 => lightmac_step(alloc, KeySize::K128, steps),
+        Named::LightmacEnd128 => lightmac_end(alloc, KeySize::K128, steps),
+        Named::ChaskeyStart => refresh_circuit(alloc, 128, steps),
+        Named::ChaskeyStep => chaskey_step(alloc, steps),
+        Named::ChaskeyEndWhole => chaskey_end_whole(alloc, steps),
+        Named::ChaskeyEndShort => chaskey_end_short(alloc, steps),
     }
 }

@@ -3,7 +3,7 @@
 ghost use Rattle.mask_emit.specs.Emitting.{NamedCircuits};
 
 /// Each named circuit is strong, of its size, and computes what its name says: PRESENT or LEA of the counter block under the key,
-/// xored with the message block; or the key itself.
+/// xored with the message block; or the key itself; or a step of Trivium, LightMAC or Chaskey.
 pub fn named_circuits()
     ensures { NamedCircuits }
 {}

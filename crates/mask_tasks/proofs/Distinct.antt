@@ -6,7 +6,7 @@ use Rattle.std.proofs.lemmas.Bool.{and_parts, cases_order}
 use Rattle.std.proofs.lemmas.List.Sums.{AllPass-from_list_all}
 use Rattle.std.proofs.lemmas.Slice.Eq.{bytes_eq-Decides}
 use Rattle.mask_tasks.specs.declared.names.Named.{Named}
-use Rattle.mask_tasks.specs.declared.names.Named.TheVariants.{Present80, Present128, Lea128, Lea192, Lea256, Refresh80, Refresh128, Refresh192, Refresh256}
+use Rattle.mask_tasks.specs.declared.names.Named.TheVariants.{Present80, Present128, Lea128, Lea192, Lea256, Refresh80, Refresh128, Refresh192, Refresh256, TriviumStart, TriviumStep, LightmacStep80, LightmacEnd80, LightmacStep128, LightmacEnd128, ChaskeyStart, ChaskeyStep, ChaskeyEndWhole, ChaskeyEndShort}
 use Rattle.mask_tasks.specs.declared.names.TheConstants.{ALL}
 use Rattle.mask_tasks.specs.Names.{name_text}
 
@@ -23,6 +23,16 @@ row_of Refresh80 = (5, lit< tt, refl)
 row_of Refresh128 = (6, lit< tt, refl)
 row_of Refresh192 = (7, lit< tt, refl)
 row_of Refresh256 = (8, lit< tt, refl)
+row_of TriviumStart = (9, lit< tt, refl)
+row_of TriviumStep = (10, lit< tt, refl)
+row_of LightmacStep80 = (11, lit< tt, refl)
+row_of LightmacEnd80 = (12, lit< tt, refl)
+row_of LightmacStep128 = (13, lit< tt, refl)
+row_of LightmacEnd128 = (14, lit< tt, refl)
+row_of ChaskeyStart = (15, lit< tt, refl)
+row_of ChaskeyStep = (16, lit< tt, refl)
+row_of ChaskeyEndWhole = (17, lit< tt, refl)
+row_of ChaskeyEndShort = (18, lit< tt, refl)
 
 differ : Named → Named → Bool
 differ a b = not (bytes_eq (name_text a) (name_text b))

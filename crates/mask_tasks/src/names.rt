@@ -19,10 +19,23 @@ pub enum Named {
     Refresh128,
     Refresh192,
     Refresh256,
+    /// Trivium: the clocks before the first output, and 64 clocks with output on 64 bits of a message
+    TriviumStart,
+    TriviumStep,
+    /// LightMAC over PRESENT: a piece of a message that isn't the last, and the last one
+    LightmacStep80,
+    LightmacEnd80,
+    LightmacStep128,
+    LightmacEnd128,
+    /// Chaskey-12: fresh shares of a key, a block that isn't the last, and a last block of 16 bytes or of fewer
+    ChaskeyStart,
+    ChaskeyStep,
+    ChaskeyEndWhole,
+    ChaskeyEndShort,
 }
 
 /// All of them.
-pub const ALL: [Named; 9] = [
+pub const ALL: [Named; 19] = [
     Named::Present80,
     Named::Present128,
     Named::Lea128,
@@ -32,6 +45,16 @@ pub const ALL: [Named; 9] = [
     Named::Refresh128,
     Named::Refresh192,
     Named::Refresh256,
+    Named::TriviumStart,
+    Named::TriviumStep,
+    Named::LightmacStep80,
+    Named::LightmacEnd80,
+    Named::LightmacStep128,
+    Named::LightmacEnd128,
+    Named::ChaskeyStart,
+    Named::ChaskeyStep,
+    Named::ChaskeyEndWhole,
+    Named::ChaskeyEndShort,
 ];
 
 impl Named {
@@ -49,6 +72,16 @@ impl Named {
             Named::Refresh128 => "refresh-128",
             Named::Refresh192 => "refresh-192",
             Named::Refresh256 => "refresh-256",
+            Named::TriviumStart => "trivium-start",
+            Named::TriviumStep => "trivium-step",
+            Named::LightmacStep80 => "lightmac-step-80",
+            Named::LightmacEnd80 => "lightmac-end-80",
+            Named::LightmacStep128 => "lightmac-step-128",
+            Named::LightmacEnd128 => "lightmac-end-128",
+            Named::ChaskeyStart => "chaskey-start",
+            Named::ChaskeyStep => "chaskey-step",
+            Named::ChaskeyEndWhole => "chaskey-end-whole",
+            Named::ChaskeyEndShort => "chaskey-end-short",
         }
     }
 
@@ -66,6 +99,13 @@ impl Named {
             Named::Refresh128 => 128,
             Named::Refresh192 => 192,
             Named::Refresh256 => 256,
+            Named::TriviumStart => 160,
+            Named::TriviumStep => 352,
+            Named::LightmacStep80 | Named::LightmacEnd80 => 208,
+            Named::LightmacStep128 | Named::LightmacEnd128 => 256,
+            Named::ChaskeyStart => 128,
+            Named::ChaskeyStep => 256,
+            Named::ChaskeyEndWhole | Named::ChaskeyEndShort => 384,
         }
     }
 
@@ -80,6 +120,16 @@ impl Named {
             Named::Refresh128 => 128,
             Named::Refresh192 => 192,
             Named::Refresh256 => 256,
+            Named::TriviumStart => 288,
+            Named::TriviumStep => 352,
+            Named::LightmacStep80
+            | Named::LightmacEnd80
+            | Named::LightmacStep128
+            | Named::LightmacEnd128 => 64,
+            Named::ChaskeyStart
+            | Named::ChaskeyStep
+            | Named::ChaskeyEndWhole
+            | Named::ChaskeyEndShort => 128,
         }
     }
 }

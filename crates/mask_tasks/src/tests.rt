@@ -16,6 +16,27 @@ fn circuits_are_found_by_name(rt: HostRuntime) {
 }
 
 #[test]
+fn circuits_of_streams_and_tags_are_found_by_name(rt: HostRuntime) {
+    for (word, name, inputs, outputs) in [
+        ("trivium-start", Named::TriviumStart, 160, 288),
+        ("trivium-step", Named::TriviumStep, 352, 352),
+        ("lightmac-step-80", Named::LightmacStep80, 208, 64),
+        ("lightmac-end-80", Named::LightmacEnd80, 208, 64),
+        ("lightmac-step-128", Named::LightmacStep128, 256, 64),
+        ("lightmac-end-128", Named::LightmacEnd128, 256, 64),
+        ("chaskey-start", Named::ChaskeyStart, 128, 128),
+        ("chaskey-step", Named::ChaskeyStep, 256, 128),
+        ("chaskey-end-whole", Named::ChaskeyEndWhole, 384, 128),
+        ("chaskey-end-short", Named::ChaskeyEndShort, 384, 128),
+    ] {
+        assert_eq!(rt; circuit_named(word), Some(name));
+        assert_eq!(rt; name.inputs(), inputs);
+        assert_eq!(rt; name.outputs(), outputs);
+    }
+    assert_eq!(rt; circuit_named("chaskey-end"), None);
+}
+
+#[test]
 fn tasks_have_lengths(rt: HostRuntime) {
     let cipher = Task::Present {
         size: KeySize::K80,

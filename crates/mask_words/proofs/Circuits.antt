@@ -4,7 +4,7 @@ use Rattle.std.specs.Prelude.{MatchOption}
 use Rattle.std.specs.Str.{bytes_eq}
 use Rattle.std.proofs.lemmas.Slice.Eq.{bytes_eq-Decides}
 use Rattle.mask_tasks.specs.declared.names.Named.{Named}
-use Rattle.mask_tasks.specs.declared.names.Named.TheVariants.{Present80, Present128, Lea128, Lea192, Lea256, Refresh80, Refresh128, Refresh192, Refresh256}
+use Rattle.mask_tasks.specs.declared.names.Named.TheVariants.{Present80, Present128, Lea128, Lea192, Lea256, Refresh80, Refresh128, Refresh192, Refresh256, TriviumStart, TriviumStep, LightmacStep80, LightmacEnd80, LightmacStep128, LightmacEnd128, ChaskeyStart, ChaskeyStep, ChaskeyEndWhole, ChaskeyEndShort}
 use Rattle.mask_tasks.specs.declared.names.TheConstants.{ALL}
 use Rattle.mask_tasks.specs.Names.{name_text}
 use Rattle.mask_words.specs.WordTests.{Word, first_named, circuit_named}
@@ -30,6 +30,16 @@ circuit_named-name Refresh80 = refl
 circuit_named-name Refresh128 = refl
 circuit_named-name Refresh192 = refl
 circuit_named-name Refresh256 = refl
+circuit_named-name TriviumStart = refl
+circuit_named-name TriviumStep = refl
+circuit_named-name LightmacStep80 = refl
+circuit_named-name LightmacEnd80 = refl
+circuit_named-name LightmacStep128 = refl
+circuit_named-name LightmacEnd128 = refl
+circuit_named-name ChaskeyStart = refl
+circuit_named-name ChaskeyStep = refl
+circuit_named-name ChaskeyEndWhole = refl
+circuit_named-name ChaskeyEndShort = refl
 
 -- so any search by names finds the same
 pub circuit_named-found : (w : Word) (found : Option Named) →

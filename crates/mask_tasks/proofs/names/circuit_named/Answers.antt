@@ -6,5 +6,5 @@ use Rattle.mask_tasks.proofs.names.circuit_named.Goals as goal
 pub returns : goal.returns
 returns c name is =
     let row = row_of name in
-    let within : row.0 < 9 = row.1 in
+    let within : row.0 < 19 = row.1 in
     c.loop-name.invariant row.0 (omega arith) (is ∙ sym (ap name_text row.2))
