@@ -1,6 +1,6 @@
 -- Hexadecimal digits as std tests them, as they are decoded, and as they are read as a number.
-use Rattle.std.proofs.Common.{◌≡◌, ◌≢◌, ℕ, ◌-◌, ◌^◌, ◌<◌, ◌≤◌, Bool, true, false, ◌||◌, [], ◌∷◌, length, get_or, if◌then◌else◌, Some, None, Result, Ok, Err, refl, ap, arith}
-use Rattle.std.proofs.lemmas.Bool.{and_parts, eqb-true}
+use Rattle.std.proofs.Common.{◌≡◌, ◌≢◌, ℕ, ◌-◌, ◌*◌, ◌%◌, ◌^◌, ◌<◌, ◌≤◌, Bool, true, false, ◌||◌, List, [], ◌∷◌, length, get_or, if◌then◌else◌, Some, None, Result, Ok, Err, codes, refl, sym, ◌∙◌, ap, arith}
+use Rattle.std.proofs.lemmas.Bool.{and_parts, eqb-true, false_from_ne_true}
 use Rattle.std.proofs.lemmas.Bool.Decides.{nat_tests}
 use Rattle.std.proofs.lemmas.Int.Digits.{digits_value-lt}
 use Rattle.std.proofs.lemmas.List.Sums.{AllPass-from_list_all}
@@ -9,8 +9,12 @@ use Rattle.std.specs.List.{AllPass}
 use Rattle.std.specs.Char.{is_ascii_hexdigit, digit_value}
 use Rattle.std.specs.Str.Parse.{AllDigits, IsNumeral, digits_value, ParsesUnsigned}
 use Rattle.std.specs.Result.{OkIff}
+use Rattle.std.specs.Str.{bytes_eq}
 use Rattle.std.proofs.lemmas.Str.Parse.{without_leading_plus_none}
-use Rattle.hex.specs.Hex.{is_hex_digit}
+use Rattle.std.proofs.lemmas.Slice.Eq.{bytes_eq-Decides}
+use Rattle.hex.specs.Hex.{is_hex_digit, decode_of, decode_sized}
+use Rattle.hex.proofs.HexLemmas.{decode_of-digits, decode_sized-twice}
+use Rattle.mask_words.specs.Naming.{decoded, hex_bytes}
 use Rattle.mask_words.specs.WordTests.{Word, are_hex_digits, are_digits}
 
 -- three ranges of digits, in one order and another
@@ -60,3 +64,18 @@ parse-64_bits w r parsed is = parse-digits 16 64 w r parsed is (omega arith) (om
 
 pub parse-128_bits : {E : Type 0} (w : Word) (r : Result ℕ E) → ParsesUnsigned 128 16 w r → are_digits 32 w ≡ true → r ≡ Ok (digits_value 16 w)
 parse-128_bits w r parsed is = parse-digits 32 128 w r parsed is (omega arith) (omega arith)
+
+-- what is decoded of more than one digit are the bytes of the word
+hex_bytes-decoded : (w : Word) (bytes : List ℕ) → 1 < length w → decode_of w ≡ Ok bytes → hex_bytes w ≡ bytes
+hex_bytes-decoded w bytes long read =
+    let other : bytes_eq w (codes "-") ≡ false =
+    false_from_ne_true _ (λ dash. let alone = ap length ((bytes_eq-Decides w (codes "-")).0 dash) in absurd (omega arith)) in
+    rw other (ap decoded read)
+
+-- two digits for each of n bytes are decoded as them
+pub decode_sized-digits : (n : ℕ) (w : Word) → are_digits (2 * n) w ≡ true → 0 < n → decode_sized w n ≡ Ok (hex_bytes w)
+decode_sized-digits n w is some =
+    let two = and_parts _ _ is in
+    let long : length w ≡ 2 * n = eqb-true _ _ two.0 in
+    let read = decode_of-digits w (omega arith) (digits_decode w two.1) in
+    decode_sized-twice w n long ∙ read.1 ∙ ap Ok (sym (hex_bytes-decoded w read.0 (omega arith) read.1))

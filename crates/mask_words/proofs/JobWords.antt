@@ -16,6 +16,7 @@ order_of-bounds w h = grind (arith, nat_tests)
 pub HasOrder-job_of : (f : Form) (ws : List Word) → Match (tests_of f) (tail_of f) ws → HasOrder (job_of f ws)
 HasOrder-job_of forms.EncPresent ws m = order_of-bounds (get_or ws 4 []) (Match-at (tests_of forms.EncPresent) None ws 4 m (lit< tt))
 HasOrder-job_of forms.EncLea ws m = order_of-bounds (get_or ws 4 []) (Match-at (tests_of forms.EncLea) None ws 4 m (lit< tt))
+HasOrder-job_of forms.EncTrivium ws m = order_of-bounds (get_or ws 4 []) (Match-at (tests_of forms.EncTrivium) None ws 4 m (lit< tt))
 HasOrder-job_of forms.Eval ws m = order_of-bounds (get_or ws 3 []) (Match-at (tests_of forms.Eval) None ws 3 m (lit< tt))
 HasOrder-job_of forms.Check ws m = tt
 HasOrder-job_of forms.Upgrade ws m = tt
@@ -30,6 +31,7 @@ HasCount-job_of forms.SelfRun ws m =
     ((is_number_between-Decides 1 1048576 (get_or ws 4 [])).0 (Match-at (tests_of forms.SelfRun) None ws 4 m (lit< tt))).0
 HasCount-job_of forms.EncPresent ws m = tt
 HasCount-job_of forms.EncLea ws m = tt
+HasCount-job_of forms.EncTrivium ws m = tt
 HasCount-job_of forms.Eval ws m = tt
 HasCount-job_of forms.Check ws m = tt
 HasCount-job_of forms.Upgrade ws m = tt
@@ -41,6 +43,7 @@ HasCount-job_of forms.Emit ws m = tt
 pub HasWords-job_of : (f : Form) (ws : List Word) → Match (tests_of f) (tail_of f) ws → HasWords ws (job_of f ws)
 HasWords-job_of forms.EncPresent ws m = tt
 HasWords-job_of forms.EncLea ws m = tt
+HasWords-job_of forms.EncTrivium ws m = tt
 HasWords-job_of forms.Eval ws m = record {
   count = Match-length (tests_of forms.Eval) ws m;
   order_word = refl;

@@ -4,7 +4,7 @@ use Rattle.std.proofs.lemmas.Fmt.{decimal_digit}
 use Rattle.std.proofs.lemmas.List.{drop_all}
 use Rattle.mask_words.specs.declared.word_tests.Command.TheVariants as commands
 use Rattle.mask_words.specs.declared.word_tests.Test.{Test}
-use Rattle.mask_words.specs.declared.word_tests.Test.TheVariants.{Given, Tape, Named, Present, Lea, Order, Digits, Hex, Wire, Seed, Count, Circuit}
+use Rattle.mask_words.specs.declared.word_tests.Test.TheVariants.{Given, Tape, Named, Present, Lea, Trivium, Order, Digits, Hex, Wire, Seed, Count, Circuit}
 use Rattle.mask_words.specs.WordTests.{Word, command_text, are_hex_digits, are_digits, passes}
 use Rattle.mask_words.specs.Jobs.{Match, reach}
 
@@ -33,6 +33,7 @@ sample Tape = codes "-"
 sample (Named c) = command_text c
 sample Present = codes "present-80"
 sample Lea = codes "lea-128"
+sample Trivium = codes "trivium"
 sample Order = codes "1"
 sample (Digits n) = zeros n
 sample Hex = codes "-"
@@ -56,6 +57,7 @@ sample-passes (Named commands.Emit) = refl
 sample-passes (Named commands.SelfRun) = refl
 sample-passes Present = refl
 sample-passes Lea = refl
+sample-passes Trivium = refl
 sample-passes Order = refl
 sample-passes (Digits n) = are_digits-zeros n
 sample-passes Hex = refl

@@ -17,14 +17,15 @@ form_at k = get_or FORMS k forms.EncPresent
 pub row_of : (f : Form) → (k : ℕ) × (k < length FORMS) × (form_at k ≡ f)
 row_of forms.EncPresent = (0, lit< tt, refl)
 row_of forms.EncLea = (1, lit< tt, refl)
-row_of forms.Eval = (2, lit< tt, refl)
-row_of forms.Check = (3, lit< tt, refl)
-row_of forms.Upgrade = (4, lit< tt, refl)
-row_of forms.Probe = (5, lit< tt, refl)
-row_of forms.Split = (6, lit< tt, refl)
-row_of forms.Join = (7, lit< tt, refl)
-row_of forms.Emit = (8, lit< tt, refl)
-row_of forms.SelfRun = (9, lit< tt, refl)
+row_of forms.EncTrivium = (2, lit< tt, refl)
+row_of forms.Eval = (3, lit< tt, refl)
+row_of forms.Check = (4, lit< tt, refl)
+row_of forms.Upgrade = (5, lit< tt, refl)
+row_of forms.Probe = (6, lit< tt, refl)
+row_of forms.Split = (7, lit< tt, refl)
+row_of forms.Join = (8, lit< tt, refl)
+row_of forms.Emit = (9, lit< tt, refl)
+row_of forms.SelfRun = (10, lit< tt, refl)
 
 -- the words are those of the form
 abbrev pub IsForm : Form → List Word → Type 0

@@ -10,18 +10,20 @@ use Rattle.mask_tasks.specs.declared.tasks.Task.TheVariants as tasks
 use Rattle.mask_tasks.specs.declared.names.Named.{Named as BuiltIn}
 use Rattle.mask_tasks.specs.declared.names.Named.TheVariants.{Present80}
 use Rattle.mask_words.specs.declared.word_tests.Test.{Test}
-use Rattle.mask_words.specs.declared.word_tests.Test.TheVariants.{Given, Tape, Named, Present, Lea, Order, Digits, Hex, Wire, Seed, Count, Circuit}
+use Rattle.mask_words.specs.declared.word_tests.Test.TheVariants.{Given, Tape, Named, Present, Lea, Trivium, Order, Digits, Hex, Wire, Seed, Count, Circuit}
 use Rattle.mask_words.specs.declared.table.Form.{Form}
 use Rattle.mask_words.specs.declared.table.Form.TheVariants as forms
 use Rattle.mask_words.specs.declared.table.Job.{Job}
 use Rattle.mask_words.specs.declared.table.Job.TheVariants as jobs
 use Rattle.mask_words.specs.declared.word_tests.Command.TheVariants as commands
 use Rattle.mask_words.specs.WordTests.{Word, passes, is_hex_text, is_wire, number_of, present_size, lea_size, circuit_named}
+use Rattle.mask_words.specs.Naming.{hex_bytes}
 
 -- what the words of a form are tested for, one by one
 abbrev pub tests_of : Form → List Test
 tests_of forms.EncPresent = Given ∷ Tape ∷ Named commands.Enc ∷ Present ∷ Order ∷ Digits 16 ∷ []
 tests_of forms.EncLea = Given ∷ Tape ∷ Named commands.Enc ∷ Lea ∷ Order ∷ Digits 32 ∷ []
+tests_of forms.EncTrivium = Given ∷ Tape ∷ Named commands.Enc ∷ Trivium ∷ Order ∷ Digits 20 ∷ []
 tests_of forms.Eval = Given ∷ Tape ∷ Named commands.Eval ∷ Order ∷ Hex ∷ []
 tests_of forms.Check = Given ∷ Tape ∷ Named commands.Check ∷ []
 tests_of forms.Upgrade = Given ∷ Tape ∷ Named commands.Upgrade ∷ []
@@ -35,6 +37,7 @@ tests_of forms.SelfRun = Given ∷ Tape ∷ Named commands.SelfRun ∷ Seed ∷ 
 abbrev pub tail_of : Form → Option Test
 tail_of forms.EncPresent = None
 tail_of forms.EncLea = None
+tail_of forms.EncTrivium = None
 tail_of forms.Eval = None
 tail_of forms.Check = None
 tail_of forms.Upgrade = None
@@ -88,6 +91,7 @@ word_at ws place = slice_index_or ws (place - 1) []
 abbrev pub job_of : Form → List Word → Job
 job_of forms.EncPresent ws = jobs.Enc (tasks.Present (present_size_of (word_at ws 4)) (iv_of (word_at ws 6))) (order_of (word_at ws 5))
 job_of forms.EncLea ws = jobs.Enc (tasks.Lea (lea_size_of (word_at ws 4)) (iv_of (word_at ws 6))) (order_of (word_at ws 5))
+job_of forms.EncTrivium ws = jobs.Enc (tasks.Trivium (hex_bytes (word_at ws 6))) (order_of (word_at ws 5))
 job_of forms.Eval ws = jobs.Eval (order_of (word_at ws 4))
 job_of forms.Check ws = jobs.Check
 job_of forms.Upgrade ws = jobs.Upgrade

@@ -14,7 +14,7 @@ use Rattle.mask_tasks.specs.Names.{name_text}
 use Rattle.mask_words.specs.declared.word_tests.Command.{Command}
 use Rattle.mask_words.specs.declared.word_tests.Command.TheVariants.{Enc, Eval, Check, Upgrade, Probe, Split, Join, Emit, SelfRun}
 use Rattle.mask_words.specs.declared.word_tests.Test.{Test}
-use Rattle.mask_words.specs.declared.word_tests.Test.TheVariants.{Given, Tape, Named, Present, Lea, Order, Digits, Hex, Wire, Seed, Count, Circuit}
+use Rattle.mask_words.specs.declared.word_tests.Test.TheVariants.{Given, Tape, Named, Present, Lea, Trivium, Order, Digits, Hex, Wire, Seed, Count, Circuit}
 
 abbrev pub Word : Type 0
 Word = List ℕ
@@ -99,6 +99,7 @@ passes Tape w = is_tape w
 passes (Named c) w = bytes_eq w (command_text c)
 passes Present w = is_some (present_size w)
 passes Lea w = is_some (lea_size w)
+passes Trivium w = bytes_eq w (codes "trivium")
 passes Order w = is_order w
 passes (Digits n) w = are_digits n w
 passes Hex w = is_hex_text w

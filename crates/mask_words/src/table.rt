@@ -4,13 +4,15 @@ ghost use Rattle.std.specs.Prelude.{◌≡◌, ℕ, ◌+◌, ◌-◌, ◌*◌, �
 ghost use Rattle.std.specs.Prelude.{IsTrue, ◌↔◌, is_some};
 ghost use Rattle.mask_words.specs.WordTests.{is_order, are_digits, present_size, lea_size, is_message_seed, is_count, number_of, circuit_named};
 ghost use Rattle.mask_words.specs.Jobs.{tests_of, tail_of, reach, Match, order_of, present_size_of, lea_size_of, iv_of, circuit_of, job_of, IsJob, IsRefused, HasOrder, HasCount, HasWords, HaveOneJob, HaveOnePlace};
+ghost use Rattle.mask_words.specs.Naming.{hex_bytes};
 
 use crate::command_lines::Words;
 use crate::word_tests::Command::{Check, Emit, Enc, Eval, Join, Probe, SelfRun, Split, Upgrade};
 use crate::word_tests::Test::{
-    self, Circuit, Count, Digits, Given, Hex, Lea, Order, Present, Seed, Tape,
+    self, Circuit, Count, Digits, Given, Hex, Lea, Order, Present, Seed, Tape, Trivium,
 };
 use crate::word_tests::{lea_size, present_size};
+use hex::FromHex;
 use mask_tasks::{KeySize, LeaSize, Named, Task, circuit_named};
 
 /// A form that a command line may have: a row of the table of commands.
@@ -20,6 +22,8 @@ pub enum Form {
     EncPresent,
     /// `KEYS TAPE enc CIPHER ORDER IV`, where CIPHER is LEA with a key size
     EncLea,
+    /// `KEYS TAPE enc trivium ORDER IV`
+    EncTrivium,
     /// `KEYS TAPE eval ORDER HEX`
     Eval,
     /// `KEYS TAPE check`
@@ -39,9 +43,10 @@ pub enum Form {
 }
 
 /// The rows of the table.
-pub const FORMS: [Form; 10] = [
+pub const FORMS: [Form; 11] = [
     Form::EncPresent,
     Form::EncLea,
+    Form::EncTrivium,
     Form::Eval,
     Form::Check,
     Form::Upgrade,
@@ -90,6 +95,7 @@ impl Form {
         match self {
             Form::EncPresent => &[Given, Tape, Test::Named(Enc), Present, Order, Digits(16)],
             Form::EncLea => &[Given, Tape, Test::Named(Enc), Lea, Order, Digits(32)],
+            Form::EncTrivium => &[Given, Tape, Test::Named(Enc), Trivium, Order, Digits(20)],
             Form::Eval => &[Given, Tape, Test::Named(Eval), Order, Hex],
             Form::Check => &[Given, Tape, Test::Named(Check)],
             Form::Upgrade => &[Given, Tape, Test::Named(Upgrade)],
@@ -109,6 +115,7 @@ impl Form {
             Form::Probe => Some(Test::Wire),
             Form::EncPresent
             | Form::EncLea
+            | Form::EncTrivium
             | Form::Eval
             | Form::Check
             | Form::Upgrade
@@ -190,6 +197,12 @@ fn job_of(form: Form, words: &Words) -> Job
             },
             order: order_of(words.word(4)),
         },
+        Form::EncTrivium => Job::Enc {
+            task: Task::Trivium {
+                iv: trivium_iv_of(words.word(5)),
+            },
+            order: order_of(words.word(4)),
+        },
         Form::Eval => Job::Eval {
             order: order_of(words.word(3)),
         },
@@ -248,6 +261,13 @@ fn lea_iv_of(word: &str) -> u128
     ensures { result ≡ iv_of word.now }
 {
     u128::from_str_radix(word, 16).unwrap()
+}
+
+fn trivium_iv_of(word: &str) -> [u8; 10]
+    requires { IsTrue (are_digits 20 word.now) }
+    ensures { result ≡ hex_bytes word.now }
+{
+    <[u8; 10] as FromHex>::from_hex(word).unwrap()
 }
 
 fn circuit_of(word: &str) -> Named

@@ -101,6 +101,16 @@ fn reads_the_words_of_enc_by_lea(rt: HostRuntime) -> Result<(), Fail> {
 }
 
 #[test]
+fn reads_the_words_of_enc_by_trivium(rt: HostRuntime) -> Result<(), Fail> {
+    let list = ["k", "t", "enc", "trivium", "3", "0123456789abCDEF00fF"];
+    let words = words_of(rt.alloc(), &list)?;
+    let iv = [0x01, 0x23, 0x45, 0x67, 0x89, 0xab, 0xcd, 0xef, 0x00, 0xff];
+    let task = Task::Trivium { iv };
+    assert_eq!(rt; read_words(&words), Ok(Job::Enc { task, order: 3 }));
+    Ok(())
+}
+
+#[test]
 fn reads_the_words_of_keys_and_circuits(rt: HostRuntime) -> Result<(), Fail> {
     let cases: [(&[&str], Job); 6] = [
         (&["k", "t", "split", "7"], Job::Split { order: 7 }),
@@ -232,6 +242,35 @@ fn refuses_the_words_of_enc_by_lea(rt: HostRuntime) -> Result<(), Fail> {
                 "00000000000000000000000000000000",
                 "x",
             ],
+            7,
+        ),
+    ];
+    for (list, place) in cases {
+        let words = words_of(rt.alloc(), list)?;
+        assert_eq!(rt; read_words(&words), Err(BadWords { place }));
+    }
+    Ok(())
+}
+
+#[test]
+fn refuses_the_words_of_enc_by_trivium(rt: HostRuntime) -> Result<(), Fail> {
+    let cases: [(&[&str], u32); 6] = [
+        (
+            &["k", "t", "enc", "trivium-80", "1", "00000000000000000000"],
+            4,
+        ),
+        (
+            &["k", "t", "enc", "trivium", "8", "00000000000000000000"],
+            5,
+        ),
+        (&["k", "t", "enc", "trivium", "1", "0000000000000000000"], 6),
+        (&["k", "t", "enc", "trivium", "1", "0000000000000000"], 6),
+        (
+            &["k", "t", "enc", "trivium", "1", "0000000000000000000g"],
+            6,
+        ),
+        (
+            &["k", "t", "enc", "trivium", "1", "00000000000000000000", "x"],
             7,
         ),
     ];

@@ -61,7 +61,8 @@ pub enum Test {
     Present,
     /// LEA with a key size: `lea-128`, `lea-192` or `lea-256`.
     Lea,
-    /// An order: one digit, from 1 to 7.
+    /// The word `trivium`.
+    Trivium,
     Order,
     /// So many hexadecimal digits, in either case.
     Digits(usize),
@@ -88,6 +89,7 @@ impl Test {
             Test::Named(command) => word == command.text(),
             Test::Present => present_size(word).is_some(),
             Test::Lea => lea_size(word).is_some(),
+            Test::Trivium => word == "trivium",
             Test::Order => is_order(word.as_bytes()),
             Test::Digits(count) => are_digits(count, word.as_bytes()),
             Test::Hex => is_hex_text(word),
