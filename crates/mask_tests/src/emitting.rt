@@ -20,6 +20,18 @@ fn emits_circuits_that_are_strong(rt: HostRuntime) -> Result<(), Fail> {
             "refresh-80",
             "accepted values=160 and=0 ref=80 strong=yes\n",
         ),
+        (
+            "trivium-step",
+            "accepted values=1856 and=192 ref=544 strong=yes\n",
+        ),
+        (
+            "chaskey-start",
+            "accepted values=256 and=0 ref=128 strong=yes\n",
+        ),
+        (
+            "chaskey-end-short",
+            "accepted values=11318 and=1488 ref=1616 strong=yes\n",
+        ),
     ] {
         let mut keys = ClosedSource::new();
         let mut tape = ClosedEntropy::new();

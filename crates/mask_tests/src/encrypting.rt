@@ -90,6 +90,15 @@ const LEA_256: Given = Given {
     ..LEA_192
 };
 
+// Eight zeros under Trivium: its keystream. They take 7200 random bits for the state, and 736 + 64.
+const TRIVIUM: Given = Given {
+    cipher: "trivium",
+    iv: "00000000000000000000",
+    keys: "0123456789abcdef0123\n00000000000000000000\n",
+    tape: 1_000,
+    ..EIGHT
+};
+
 const BY_LEA_128: [u8; 16] = [
     0x9f, 0xc8, 0x4e, 0x35, 0x28, 0xc6, 0xc6, 0x18, 0x55, 0x32, 0xc7, 0xa7, 0x04, 0x64, 0x8b, 0xfd,
 ];
@@ -100,6 +109,10 @@ const BY_LEA_192: [u8; 16] = [
 
 const BY_LEA_256: [u8; 16] = [
     0xd6, 0x51, 0xaf, 0xf6, 0x47, 0xb1, 0x89, 0xc1, 0x3a, 0x89, 0x00, 0xca, 0x27, 0xf9, 0xe1, 0x97,
+];
+
+const BY_TRIVIUM: [u8; 16] = [
+    0xfc, 0x05, 0xf1, 0x81, 0xd0, 0xa1, 0x67, 0xf3, 0xb7, 0x0e, 0x4a, 0x98, 0xd7, 0xfc, 0x76, 0xfe,
 ];
 
 const FIRST: [u8; 8] = [0x55, 0x79, 0xc1, 0x38, 0x7b, 0x22, 0x84, 0x45];
@@ -196,6 +209,41 @@ fn encrypts_zeros_by_lea(rt: HostRuntime) -> Result<(), Fail> {
         ("nothing", nothing, &[], 0),
     ];
     assert_eq!(rt; first_wrong(rt.alloc(), &cases)?, None);
+    Ok(())
+}
+
+// Of Trivium a call for the state comes first, and one for each eight bytes, which are written before the next ones are read.
+#[test]
+fn encrypts_zeros_by_trivium(rt: HostRuntime) -> Result<(), Fail> {
+    let nine = Given {
+        zeros: 9,
+        tape: 1_100,
+        ..TRIVIUM
+    };
+    let nothing = Given {
+        zeros: 0,
+        tape: 0,
+        ..TRIVIUM
+    };
+    let eight = encrypt(rt.alloc(), &TRIVIUM)?;
+    assert_eq!(rt; eight.status, Status::Done);
+    assert_eq!(rt; eight.written.as_slice(), &BY_TRIVIUM[..8]);
+    assert_eq!(rt; eight.watch.len(), 2);
+    let two = encrypt(rt.alloc(), &nine)?;
+    assert_eq!(rt; two.status, Status::Done);
+    assert_eq!(rt; two.written.as_slice(), &BY_TRIVIUM[..9]);
+    assert_eq!(rt; two.watch.len(), 3);
+    let none = encrypt(rt.alloc(), &nothing)?;
+    assert_eq!(rt; none.status, Status::Done);
+    assert!(rt; none.written.is_empty() && none.watch.is_empty());
+    let short = Given {
+        tape: 1_099,
+        ..nine
+    };
+    let cut = encrypt(rt.alloc(), &short)?;
+    assert_eq!(rt; cut.status, Status::TapeFault);
+    assert_eq!(rt; cut.written.as_slice(), &BY_TRIVIUM[..8]);
+    assert_eq!(rt; cut.watch.len(), 2);
     Ok(())
 }
 
