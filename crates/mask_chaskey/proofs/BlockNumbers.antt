@@ -1,15 +1,14 @@
 -- Blocks as four words and as 128 values, and the number that they stand for.
-use Rattle.std.proofs.Common.{◌≡◌, ℕ, zero, suc, ◌+◌, ◌*◌, ◌^◌, ◌<◌, ◌≤◌, Bool, List, [], ◌∷◌, ◌++◌, length, map, take, drop, All, refl, sym, ap, ap₂, ◌∙◌, arith, length-append, bit_xor, lit<, get_or, slice_index, slice_set}
+use Rattle.std.proofs.Common.{◌≡◌, ℕ, ◌+◌, ◌*◌, ◌^◌, ◌<◌, ◌≤◌, Bool, List, [], ◌∷◌, ◌++◌, length, map, take, drop, All, refl, sym, ap, ap₂, ◌∙◌, arith, length-append, bit_xor, lit<, slice_index, slice_set}
 use Rattle.std.specs.List.{range_with_len, concat}
-use Rattle.std.proofs.lemmas.List.{length-map, length-take-le, length-drop, map-append, take-append-drop, drop-drop, drop_more, drop_all}
+use Rattle.std.proofs.lemmas.List.{length-map, length-take-le, length-drop, map-append, take-append-drop, drop-drop, drop_all}
 use Rattle.std.proofs.lemmas.List.Elements.{All-nil, All-head, All-tail, All-append, All-take, All-drop, All-from_recursion}
-use Rattle.std.proofs.lemmas.Nat.{div-mul-add, mod-mul-add, xor_block}
 use Rattle.mask_bits.specs.Reading.{number}
-use Rattle.mask_bits.proofs.Numbers.{number-append, number-lt}
+use Rattle.mask_bits.proofs.Numbers.{number-append}
 use Rattle.mask_circuit.specs.Netlist.{Netlist}
 use Rattle.mask_circuit.specs.Value.{value_at}
 use Rattle.mask_parts.specs.Turns.{in_turn}
-use Rattle.mask_parts.specs.Words32.{words_of, joined}
+use Rattle.mask_parts.specs.Words32.{joined}
 use Rattle.mask_parts.proofs.Joining.{xor-joined}
 use Rattle.mask_parts.proofs.Passing.{IsReady}
 use Rattle.mask_parts.proofs.Ranges.{elements}

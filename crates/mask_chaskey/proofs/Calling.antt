@@ -1,17 +1,13 @@
 -- Stages as calls know them: of values of the draft, and what a loop of steps has made of one.
-use Rattle.std.proofs.Common.{◌≡◌, ℕ, suc, ◌+◌, ◌<◌, List, [], length, All, refl, ap, ◌∙◌, subst, arith, add-one}
-use Rattle.std.proofs.lemmas.List.Elements.{All-get_or, All-weaker}
-use Rattle.mask_circuit.specs.Netlist.{Netlist, value_count}
-use Rattle.mask_parts.specs.Drafts.{Grows, IsWithinLimits}
+use Rattle.std.proofs.Common.{◌≡◌, ℕ, List, length, refl, ap, subst}
+use Rattle.mask_circuit.specs.Netlist.{Netlist}
+use Rattle.mask_parts.specs.Drafts.{IsWithinLimits}
 use Rattle.mask_parts.specs.Turns.{in_turn}
-use Rattle.mask_parts.specs.Words32.{with_sum32, sum32_results, word, AreWordsOf}
-use Rattle.mask_parts.proofs.Growing.{value_count-Grows}
-use Rattle.mask_parts.proofs.Passing.{Formed, IsReady, AreOf}
-use Rattle.mask_parts.proofs.Turns.{Grows-in_turn, Grows-all, HasRun}
-use Rattle.mask_parts.proofs.WordFitting.{value_count-with_sum32, sum32_results-below}
-use Rattle.mask_parts.proofs.WordPassing.{IsWord, words-known, known-words}
+use Rattle.mask_parts.specs.Words32.{AreWordsOf}
+use Rattle.mask_parts.proofs.Passing.{Formed}
+use Rattle.mask_parts.proofs.Turns.{HasRun}
+use Rattle.mask_parts.proofs.WordPassing.{words-known, known-words}
 use Rattle.mask_chaskey.specs.Rounds.{Stage, stage}
-use Rattle.mask_chaskey.proofs.Lengthening.{Lengthens}
 use Rattle.mask_chaskey.proofs.Running.{IsFine}
 
 -- STAGES

@@ -1,27 +1,19 @@
 -- The named circuits are strong, of their size, and compute a step and the ends of the code.
-use Rattle.std.proofs.Common.{◌≡◌, ℕ, ◌+◌, ◌^◌, ◌<◌, ◌≤◌, Bool, cond, List, [], ◌∷◌, ◌++◌, length, map, take, drop, All, refl, sym, ap, ap₂, ◌∙◌, arith, lit≤, bit_xor}
-use Rattle.std.specs.List.{concat, count_by}
+use Rattle.std.proofs.Common.{◌≡◌, ℕ, ◌+◌, ◌^◌, ◌<◌, ◌≤◌, Bool, List, length, map, take, drop, All, sym, ap, ap₂, ◌∙◌, arith, lit≤, bit_xor}
+use Rattle.std.specs.List.{concat}
 use Rattle.std.proofs.Math.Nat.{mod-eq_of_lt}
 use Rattle.std.proofs.lemmas.List.{length-map, length-drop, take_all}
-use Rattle.std.proofs.lemmas.List.Sums.{sum_by-cons}
-use Rattle.std.proofs.lemmas.List.FromFn.{length-range_with_len}
-use Rattle.std.proofs.lemmas.List.Elements.{All-nil, All-weaker}
 use Rattle.mask_bits.specs.Reading.{number, lowest}
-use Rattle.mask_bits.proofs.Numbers.{lowest-of, number-lowest, number-lt}
-use Rattle.mask_circuit.specs.declared.gates.Gate.{Gate}
-use Rattle.mask_circuit.specs.declared.gates.Gate.TheVariants.{Ref}
-use Rattle.mask_circuit.specs.Netlist.{Netlist, IsCircuit, IsWellFormed, only_inputs, value_count, product_count, refresh_count, is_product, is_refresh}
-use Rattle.mask_circuit.specs.Value.{value_at, plain_values, plain}
-use Rattle.mask_circuit.specs.Acceptance.{IsStrong}
+use Rattle.mask_bits.proofs.Numbers.{number-lowest, number-lt}
+use Rattle.mask_circuit.specs.Netlist.{Netlist, only_inputs}
+use Rattle.mask_circuit.specs.Value.{value_at, plain_values}
 use Rattle.mask_parts.specs.CipherCircuits.{Size, size_of, IsCipherCircuit}
-use Rattle.mask_parts.specs.Drafts.{with_outputs, bits_of, Grows, IsWithinLimits}
-use Rattle.mask_parts.specs.Fences.{with_fence}
+use Rattle.mask_parts.specs.Drafts.{bits_of, Grows, IsWithinLimits}
 use Rattle.mask_parts.specs.Words32.{joined}
-use Rattle.mask_parts.proofs.Concluding.{IsStrong-tidy_fence, IsCipherCircuit-strong, Grows-fence, IsDone, IsStrong-done, IsCipherCircuit-done, bits_of-lowest}
+use Rattle.mask_parts.proofs.Concluding.{Grows-fence, IsDone, IsCipherCircuit-done, bits_of-lowest}
 use Rattle.mask_parts.proofs.Counting.{same_size, size-with_fence, IsWithinLimits-sized}
-use Rattle.mask_parts.proofs.Fencing.{IsWellFormed-fence, plain-with_fence}
-use Rattle.mask_parts.proofs.Growing.{inputs-with_gates, outputs-with_gates, value_count-with_gates, product_count-with_gates, refresh_count-with_gates, Grows-trans, Grows-with_gates, Grows-with_outputs}
-use Rattle.mask_parts.proofs.Passing.{IsReady, Passes, Passes-trans, AreOf, AreOf-ready}
+use Rattle.mask_parts.proofs.Growing.{Grows-trans}
+use Rattle.mask_parts.proofs.Passing.{Passes, Passes-trans, AreOf, AreOf-ready}
 use Rattle.mask_parts.proofs.Solving.{Solves-all, Solved, Solved-Grows}
 use Rattle.mask_parts.proofs.Turns.{Runs-trans}
 use Rattle.mask_parts.proofs.WordPassing.{IsWord, words-later}

@@ -1,11 +1,9 @@
 -- What the parts do to any draft: it grows, by so many values.
-use Rattle.std.proofs.Common.{◌≡◌, ℕ, zero, suc, ◌+◌, ◌-◌, ◌≤◌, List, arith}
+use Rattle.std.proofs.Common.{ℕ, ◌-◌, List}
 use Rattle.std.specs.List.{concat}
-use Rattle.mask_circuit.specs.Netlist.{Netlist, value_count}
+use Rattle.mask_circuit.specs.Netlist.{value_count}
 use Rattle.mask_parts.specs.Drafts.{Grows}
 use Rattle.mask_parts.specs.Tables.{part_gates, with_part}
-use Rattle.mask_parts.specs.Turns.{in_turn}
-use Rattle.mask_parts.specs.Words32.{xor32_gates, with_xor32, sum32_gates, with_sum32}
 use Rattle.mask_parts.proofs.Growing.{Grows-refl, Grows-trans, Grows-with_gates}
 use Rattle.mask_parts.proofs.Turns.{Grows-all}
 use Rattle.mask_parts.proofs.WordPassing.{Grows-xor32, Grows-sum32}

@@ -1,15 +1,15 @@
 -- From stage to stage: each step keeps a stage whole, and adds so many values.
-use Rattle.std.proofs.Common.{◌≡◌, ℕ, zero, suc, ◌+◌, ◌*◌, ◌<◌, ◌≤◌, true, List, [], ◌++◌, length, take, drop, All, refl, ◌∙◌, arith, length-append, lit<, slice_set}
+use Rattle.std.proofs.Common.{◌≡◌, ℕ, zero, suc, ◌+◌, ◌*◌, ◌<◌, ◌≤◌, true, List, ◌++◌, length, take, drop, All, refl, ◌∙◌, arith, length-append, lit<, slice_set}
 use Rattle.std.specs.List.{concat}
 use Rattle.std.proofs.lemmas.List.{length-set, length-take, length-drop}
-use Rattle.std.proofs.lemmas.List.Elements.{All-get_or, All-set, All-append, All-take, All-drop, All-weaker}
+use Rattle.std.proofs.lemmas.List.Elements.{All-set, All-append, All-take, All-drop, All-weaker}
 use Rattle.mask_circuit.specs.Netlist.{Netlist, value_count}
 use Rattle.mask_circuit.specs.Value.{value_at}
 use Rattle.mask_parts.specs.Tables.{part_gates, part_usable, is_part, with_part}
 use Rattle.mask_parts.specs.Turns.{in_turn}
 use Rattle.mask_parts.specs.Words32.{with_xor32, xor32_results, with_sum32, sum32_results, rotated32, word}
 use Rattle.mask_parts.proofs.Counting.{Counts}
-use Rattle.mask_parts.proofs.Passing.{IsSound, IsReady, Passes, Passes-refl, Passes-trans, Passes-as, Passes-part, IsReady-part}
+use Rattle.mask_parts.proofs.Passing.{IsSound, IsReady, Passes, Passes-refl, Passes-trans, Passes-part, IsReady-part}
 use Rattle.mask_parts.proofs.Turns.{RunsTo, Runs-trans, Runs-as, Runs-in_turn}
 use Rattle.mask_parts.proofs.WordPassing.{IsWord, IsWord-later, Passes-xor32, word-xor32, Passes-sum32, word-sum32, IsWord-rotated, words-later, word-at}
 use Rattle.mask_chaskey.specs.declared.doubling.End.{End}

@@ -1,25 +1,18 @@
 -- What the values of a stage stand for: where bits solve all gates, the rounds on values compute the rounds on numbers.
-use Rattle.std.proofs.Common.{◌≡◌, ℕ, zero, suc, ◌+◌, ◌%◌, ◌^◌, ◌<◌, ◌≤◌, Bool, false, List, [], ◌++◌, length, map, take, drop, All, refl, sym, ap, ap₂, ◌∙◌, arith, lit<, add-one, bit_xor, slice_index, slice_set}
+use Rattle.std.proofs.Common.{◌≡◌, ℕ, zero, suc, ◌+◌, ◌%◌, ◌^◌, ◌<◌, ◌≤◌, Bool, false, List, ◌++◌, length, map, take, drop, All, refl, sym, ap, ap₂, ◌∙◌, arith, lit<, add-one, bit_xor, slice_index, slice_set}
 use Rattle.std.specs.List.{concat}
-use Rattle.std.proofs.Math.ListN.{get_or-map}
 use Rattle.std.proofs.lemmas.List.{length-map, map-set, map-append, take-map, drop-map, get_or-map as get_or-in_map}
-use Rattle.std.proofs.lemmas.List.Elements.{All-map}
 use Rattle.mask_bits.specs.Reading.{number}
-use Rattle.mask_circuit.specs.declared.gates.Gate.{Gate}
 use Rattle.mask_circuit.specs.Netlist.{Netlist, value_count}
 use Rattle.mask_circuit.specs.Value.{xor, value_at}
-use Rattle.mask_parts.specs.Drafts.{with_gates, with_outputs, Grows}
 use Rattle.mask_parts.specs.Tables.{part_gates, with_part}
 use Rattle.mask_parts.specs.Turns.{in_turn}
-use Rattle.mask_parts.specs.Words32.{with_xor32, xor32_results, with_sum32, sum32_results, rotated32, rol32, words_of, joined, word}
-use Rattle.mask_parts.proofs.Adding.{sum32-solved}
+use Rattle.mask_parts.specs.Words32.{xor32_results, with_sum32, sum32_results, rotated32, words_of, joined, word}
 use Rattle.mask_parts.proofs.Joining.{words_of-joined}
-use Rattle.mask_parts.proofs.Solving.{Solves, Solves-left, Solves-right, Solved, Solved-with_gates, Solved-Grows}
+use Rattle.mask_parts.proofs.Solving.{Solves, Solved, Solved-with_gates, Solved-Grows}
 use Rattle.mask_parts.proofs.WordFitting.{value_count-with_sum32, length-sum32_results, length-rotated32}
-use Rattle.mask_parts.proofs.WordNumbers.{number-rotated32}
 use Rattle.mask_parts.proofs.WordPassing.{Grows-xor32, IsWord, word-at}
-use Rattle.mask_parts.proofs.WordShowing.{shown, shown-lt, shown-xor32, shown-sum32, shown-rotated, shown-word, all_shown-lt}
-use Rattle.mask_parts.proofs.Xoring.{xor32-solved}
+use Rattle.mask_parts.proofs.WordShowing.{shown, shown-xor32, shown-sum32, shown-rotated, shown-word, all_shown-lt}
 use Rattle.mask_chaskey.specs.declared.doubling.End.{End}
 use Rattle.mask_chaskey.specs.declared.doubling.End.TheVariants.{Whole, Short}
 use Rattle.mask_chaskey.specs.Chaskey.{mixed, turned, round, permuted, permutation, doubled, last_mask}

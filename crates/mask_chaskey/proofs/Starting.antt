@@ -1,19 +1,12 @@
 -- Inputs in a row: words that gates may take, and the bits that they stand for.
-use Rattle.std.proofs.Common.{◌≡◌, ℕ, zero, suc, ◌+◌, ◌<◌, ◌≤◌, Bool, false, Some, List, ◌∷◌, length, map, take, drop, All, refl, sym, ap, ap₂, ◌∙◌, arith}
+use Rattle.std.proofs.Common.{◌≡◌, ℕ, ◌+◌, ◌≤◌, Bool, List, length, map, take, drop, All, sym, ap, ◌∙◌, arith}
 use Rattle.std.specs.List.{range_with_len}
-use Rattle.std.proofs.lemmas.List.{drop_more}
 use Rattle.std.proofs.lemmas.List.FromFn.{length-range_with_len}
-use Rattle.std.proofs.lemmas.List.Elements.{All-nil, All-cons}
 use Rattle.mask_bits.specs.Reading.{number}
-use Rattle.mask_circuit.specs.declared.gates.Gate.{Gate}
 use Rattle.mask_circuit.specs.Netlist.{Netlist, only_inputs}
-use Rattle.mask_circuit.specs.Value.{value_at, plain_values}
-use Rattle.mask_circuit.specs.Acceptance.{gate_at, IsTidy}
-use Rattle.mask_circuit.proofs.GateAt.{gate_at_within}
+use Rattle.mask_circuit.specs.Value.{plain_values}
 use Rattle.mask_parts.specs.Words32.{joined}
 use Rattle.mask_parts.proofs.Inputs.{bits-inputs, IsSound-inputs, All-inputs}
-use Rattle.mask_parts.proofs.Passing.{IsSound, IsReady}
-use Rattle.mask_parts.proofs.Solving.{values_from-keeps}
 use Rattle.mask_parts.proofs.WordPassing.{IsWord}
 use Rattle.mask_parts.proofs.WordShowing.{shown}
 use Rattle.mask_chaskey.specs.NamedChaskey.{four_words, block_from}

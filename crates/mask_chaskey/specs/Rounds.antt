@@ -2,7 +2,7 @@
 --
 -- A value is named by its number. A word is a list of 32 values, bit 0 first, and a block is a list of four words. Each part
 -- appends its gates to a draft and says which values stand for the block afterwards.
-use Rattle.std.specs.Prelude.{◌≡◌, ℕ, ◌+◌, ◌<◌, List, [], length, All, slice_index_or, slice_set}
+use Rattle.std.specs.Prelude.{ℕ, ◌+◌, List, slice_set}
 use Rattle.mask_circuit.specs.Netlist.{Netlist, value_count}
 use Rattle.mask_parts.specs.Turns.{in_turn}
 use Rattle.mask_parts.specs.Words32.{with_xor32, xor32_results, with_sum32, sum32_results, rotated32, word}

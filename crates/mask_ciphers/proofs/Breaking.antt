@@ -1,6 +1,5 @@
 -- A run that breaks off behind any of its steps is private.
-use Rattle.std.proofs.Common.{ℕ, zero, suc, ◌*◌, List, [], ◌∷◌, take, subst}
-use Rattle.mask_tasks.specs.declared.tasks.Task.{Task}
+use Rattle.std.proofs.Common.{ℕ, ◌*◌, List, take, subst}
 use Rattle.mask_tasks.specs.Tasks.{key_bytes}
 use Rattle.mask_trace.specs.Steps.{IsStrongPlan}
 use Rattle.mask_trace.proofs.Beginnings.{IsStrongPlan-take}

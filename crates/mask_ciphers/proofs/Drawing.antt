@@ -1,11 +1,6 @@
 -- How many random bits the runs of a task draw.
-use Rattle.std.proofs.Common.{◌≡◌, ℕ, suc, ◌+◌, ◌-◌, ◌*◌, ◌/◌, List, length, refl, sym, ap, ap₂, ◌∙◌, arith}
-use Rattle.std.proofs.Math.Nat.{mul_comm}
-use Rattle.mask_circuit.specs.Netlist.{Netlist, product_count, refresh_count}
+use Rattle.std.proofs.Common.{◌≡◌, ℕ, suc, ◌+◌, ◌-◌, ◌*◌, ◌/◌, List, length, refl, ap₂, ◌∙◌, arith}
 use Rattle.mask_circuit.specs.Expansion.{draws}
-use Rattle.mask_circuit.specs.Wires.{pairs}
-use Rattle.mask_circuit.proofs.Draws.{draws-product}
-use Rattle.mask_circuit.proofs.PairNumbers.{length-pairs}
 use Rattle.mask_tasks.specs.declared.sizes.KeySize.{KeySize}
 use Rattle.mask_tasks.specs.declared.sizes.KeySize.TheVariants.{K80, K128}
 use Rattle.mask_tasks.specs.declared.sizes.LeaSize.{LeaSize}

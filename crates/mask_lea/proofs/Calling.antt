@@ -4,11 +4,9 @@ use Rattle.std.proofs.lemmas.List.Elements.{All-nil, All-weaker}
 use Rattle.mask_circuit.specs.Netlist.{Netlist, value_count}
 use Rattle.mask_parts.specs.Drafts.{Grows}
 use Rattle.mask_parts.specs.Turns.{in_turn}
-use Rattle.mask_parts.specs.Words32.{with_xor32, xor32_results, AreWordsOf}
+use Rattle.mask_parts.specs.Words32.{AreWordsOf}
 use Rattle.mask_parts.proofs.Passing.{Formed, IsReady, AreOf}
-use Rattle.mask_parts.proofs.Ranges.{All-range}
 use Rattle.mask_parts.proofs.Turns.{HasRun}
-use Rattle.mask_parts.proofs.WordFitting.{value_count-with_xor32}
 use Rattle.mask_parts.proofs.WordPassing.{IsWord-rotated, IsWord-constant, words-known, known-words, AreWordsOf-Grows}
 use Rattle.mask_tasks.specs.declared.sizes.LeaSize.{LeaSize}
 use Rattle.mask_lea.specs.Lea.{schedule, place, Schedule, delta}

@@ -7,13 +7,12 @@ use Rattle.mask_bits.specs.Reading.{number, lowest}
 use Rattle.mask_circuit.specs.declared.gates.Gate.TheVariants.{Zero, One}
 use Rattle.mask_circuit.specs.Netlist.{Netlist, only_inputs, value_count, product_count, refresh_count}
 use Rattle.mask_circuit.specs.Value.{plain_values}
-use Rattle.mask_circuit.specs.Acceptance.{IsStrong}
 use Rattle.mask_tasks.specs.declared.sizes.LeaSize.{LeaSize}
 use Rattle.mask_tasks.specs.declared.sizes.LeaSize.TheVariants.{K128, K192, K256}
 use Rattle.mask_parts.specs.CipherCircuits.{Size, size_of, IsCipherCircuit}
 use Rattle.mask_parts.specs.Drafts.{with_gates, bits_of, Grows, IsWithinLimits}
 use Rattle.mask_parts.specs.Words32.{words_of, joined}
-use Rattle.mask_parts.proofs.Concluding.{Grows-fence, IsDone, IsStrong-done, bits_of-lowest, IsCipherCircuit-done}
+use Rattle.mask_parts.proofs.Concluding.{Grows-fence, IsDone, bits_of-lowest, IsCipherCircuit-done}
 use Rattle.mask_parts.proofs.Counting.{same_size, IsWithinLimits-sized, size-with_fence}
 use Rattle.mask_parts.proofs.Growing.{Grows-trans, Grows-with_gates}
 use Rattle.mask_parts.proofs.Inputs.{IsReady-input}

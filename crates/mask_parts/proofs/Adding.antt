@@ -1,18 +1,17 @@
 -- The sum of two words: its gates, and what they compute, carry by carry.
 use Rattle.std.proofs.Common.{◌≡◌, ℕ, zero, suc, ◌+◌, ◌*◌, ◌/◌, ◌%◌, ◌^◌, ◌<◌, Bool, true, false, ◌&&◌, List, [], ◌∷◌, ◌++◌, length, map, slice_index, All, refl, ap, ap₂, ◌∙◌, subst, arith, lit<, add-zero, if◌then◌else◌}
-use Rattle.std.specs.List.{range_with_len, count_by}
+use Rattle.std.specs.List.{range_with_len}
 use Rattle.std.proofs.Math.Arith.{mod-mul}
 use Rattle.std.proofs.Math.Nat.{pow-suc}
 use Rattle.std.proofs.lemmas.List.Elements.{All-append}
 use Rattle.std.proofs.lemmas.Nat.{pow_pos}
 use Rattle.mask_bits.specs.Reading.{number}
-use Rattle.mask_circuit.specs.Netlist.{Netlist, AreGates, value_count, is_product, is_refresh}
+use Rattle.mask_circuit.specs.Netlist.{Netlist, AreGates, value_count}
 use Rattle.mask_circuit.specs.Value.{xor, value_at, plain_values}
-use Rattle.mask_circuit.specs.Acceptance.{IsTidy}
 use Rattle.mask_parts.specs.declared.tables.Step.{Step}
 use Rattle.mask_parts.specs.Drafts.{with_gates, bits_of}
 use Rattle.mask_parts.specs.Tables.{gates_from, part_usable, is_part, with_part}
-use Rattle.mask_parts.specs.Tidiness.{IsFree, KeepsTidy}
+use Rattle.mask_parts.specs.Tidiness.{KeepsTidy}
 use Rattle.mask_parts.specs.Words32.{half_adder, full_adder, ripple, sum32_steps, sum32_gates, with_sum32, sum_place, sum32_results}
 use Rattle.mask_parts.proofs.PartGates.{AreGates-part}
 use Rattle.mask_parts.proofs.PartTidiness.{AreFree, are_usable, KeepsTidy-usable}

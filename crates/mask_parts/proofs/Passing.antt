@@ -2,7 +2,7 @@
 --
 -- What is said of tidiness is said under a premise T. The calls know nothing of it, so there T is ⊥; the named circuits begin
 -- tidy, so there it is the unit. One induction serves both.
-use Rattle.std.proofs.Common.{◌≡◌, ℕ, ◌+◌, ◌<◌, Bool, true, List, [], ◌∷◌, length, map, replicate, drop, slice_index_or, All, ap, sym, ◌∙◌, arith}
+use Rattle.std.proofs.Common.{◌≡◌, ℕ, ◌+◌, ◌<◌, true, List, [], ◌∷◌, length, map, All, ap, sym, ◌∙◌, arith}
 use Rattle.std.proofs.lemmas.Bool.{and_parts}
 use Rattle.std.proofs.lemmas.List.Elements.{All-nil, All-cons, All-weaker}
 use Rattle.mask_circuit.specs.Netlist.{Netlist, AreGates, value_count}

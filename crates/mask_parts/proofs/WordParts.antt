@@ -1,14 +1,8 @@
--- Parts on two words: what they are handed, and that their results are free.
-use Rattle.std.proofs.Common.{◌≡◌, ℕ, ◌+◌, Bool, true, ◌&&◌, List, [], ◌∷◌, ◌++◌, length, map, get_or, All, ap, sym, ◌∙◌, arith, length-append}
+-- Parts on two words: what they are handed.
+use Rattle.std.proofs.Common.{◌≡◌, ◌+◌, List, ◌++◌, length, map, get_or, ap, sym, ◌∙◌, arith, length-append}
 use Rattle.std.specs.List.{range_with_len}
-use Rattle.std.proofs.lemmas.Bool.{and_parts}
 use Rattle.std.proofs.lemmas.List.{length-map, get_or-map, get_or_append_left, get_or-append-add}
-use Rattle.std.proofs.lemmas.List.Elements.{All-nil, All-cons}
 use Rattle.std.proofs.lemmas.List.FromFn.{fill_by_all}
-use Rattle.mask_circuit.specs.Netlist.{Netlist}
-use Rattle.mask_circuit.specs.Value.{value_at}
-use Rattle.mask_parts.specs.Tidiness.{IsFree}
-use Rattle.mask_parts.proofs.PartTidiness.{AreFree}
 
 pub length-both : {X : Type 0} (xs ys : List X) → length xs ≡ 32 → length ys ≡ 32 → length (xs ++ ys) ≡ 64
 length-both xs ys x_long y_long = omega (arith, length-append xs ys)

@@ -1,11 +1,10 @@
 -- Words on drafts: which may be taken, and what the parts on two words keep.
-use Rattle.std.proofs.Common.{◌≡◌, ℕ, ◌<◌, true, List, [], ◌++◌, length, map, replicate, All, refl, sym, ◌∙◌}
+use Rattle.std.proofs.Common.{◌≡◌, ℕ, ◌<◌, List, [], ◌++◌, length, map, All, refl, sym, ◌∙◌}
 use Rattle.std.specs.List.{range_with_len}
 use Rattle.std.proofs.lemmas.List.Elements.{All-append, All-get_or, All-weaker}
 use Rattle.mask_circuit.specs.Netlist.{Netlist, value_count}
-use Rattle.mask_circuit.specs.Value.{value_at}
 use Rattle.mask_parts.specs.Drafts.{Grows}
-use Rattle.mask_parts.specs.Tables.{part_gates, part_usable}
+use Rattle.mask_parts.specs.Tables.{part_gates}
 use Rattle.mask_parts.specs.Words32.{xor32_steps, xor32_gates, with_xor32, xor32_results, sum32_steps, sum32_gates, with_sum32, sum_place, sum32_results, rotated32, constant32, word, AreWordsOf}
 use Rattle.mask_parts.proofs.Adding.{is_part-sum32, with_sum32-with_part, usable-sum32, results_from}
 use Rattle.mask_parts.proofs.Counting.{Counts}

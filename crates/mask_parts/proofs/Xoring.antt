@@ -1,16 +1,15 @@
 -- The XOR of two words: its gates, and what they compute.
-use Rattle.std.proofs.Common.{◌≡◌, ℕ, ◌+◌, ◌<◌, Bool, true, false, List, [], ◌++◌, length, map, All, bit_xor, refl, ap, ap₂, sym, ◌∙◌, subst}
-use Rattle.std.specs.List.{range_with_len, count_by}
+use Rattle.std.proofs.Common.{◌≡◌, ℕ, ◌+◌, ◌<◌, Bool, true, false, List, [], ◌++◌, length, map, All, bit_xor, refl, ap, ap₂, sym, ◌∙◌}
+use Rattle.std.specs.List.{range_with_len}
 use Rattle.std.proofs.lemmas.List.{length-map, map-append, map-id}
 use Rattle.std.proofs.lemmas.List.Elements.{All-append}
 use Rattle.std.proofs.lemmas.List.FromFn.{length-range_with_len, get_or-range_with_len, fill_by_all}
 use Rattle.mask_bits.specs.Reading.{number}
-use Rattle.mask_circuit.specs.Netlist.{Netlist, AreGates, value_count, is_product, is_refresh}
+use Rattle.mask_circuit.specs.Netlist.{Netlist, AreGates, value_count}
 use Rattle.mask_circuit.specs.Value.{xor, value_at, plain_values}
-use Rattle.mask_circuit.specs.Acceptance.{IsTidy}
 use Rattle.mask_parts.specs.Drafts.{with_gates, bits_of}
 use Rattle.mask_parts.specs.Tables.{part_bits, part_usable, is_part, with_part}
-use Rattle.mask_parts.specs.Tidiness.{IsFree, KeepsTidy}
+use Rattle.mask_parts.specs.Tidiness.{KeepsTidy}
 use Rattle.mask_parts.specs.Words32.{xor32_steps, xor32_gates, with_xor32, xor32_results}
 use Rattle.mask_parts.proofs.PartGates.{AreGates-part, part_bits-solved}
 use Rattle.mask_parts.proofs.PartTidiness.{AreFree, are_usable, KeepsTidy-usable}

@@ -1,10 +1,10 @@
--- Values in a row of a circuit, and the XOR of each two of two rows.
+-- Two rows of values, and the XOR of each two in the same place.
 use Rattle.std.specs.Prelude.{ℕ, Bool, List, [], ◌∷◌}
 use Rattle.mask_circuit.specs.declared.gates.Gate.{Gate}
 use Rattle.mask_circuit.specs.declared.gates.Gate.TheVariants.{Xor}
 use Rattle.mask_circuit.specs.Value.{xor}
 
--- a gate for each two values in the same place, as far as both rows go
+-- a gate for each two, as far as both rows go
 unfoldable pub xor_gates : List ℕ → List ℕ → List Gate
 xor_gates [] vs = []
 xor_gates (u ∷ us) [] = []

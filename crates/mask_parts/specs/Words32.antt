@@ -1,4 +1,4 @@
--- Words of 32 bits: their XOR and their sum as parts, rotations and constants; lists of words, and the number of one.
+-- Words of 32 bits: their XOR and their sum as parts, rotations and constants; lists of words, and the number that they make.
 --
 -- A word is a list of 32 values, bit 0 first; bit i weighs 2 ^ i. A part on two words x and y is handed the bits of x and
 -- then those of y, so bit i of x is at Given i, and bit i of y at Given (32 + i).

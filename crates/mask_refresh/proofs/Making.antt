@@ -1,15 +1,10 @@
 -- What the circuit of refreshes is: strong, of its size, and without an effect on plain bits.
-use Rattle.std.proofs.Common.{◌≡◌, ℕ, ◌+◌, ◌<◌, Bool, Some, List, [], ◌∷◌, length, map, count_by, cond, All, refl, ap, ap₂, sym, subst, ◌∙◌, arith}
+use Rattle.std.proofs.Common.{◌≡◌, ℕ, Bool, List, length, refl, ap, ap₂, sym, subst, ◌∙◌, arith}
 use Rattle.std.specs.List.{range_with_len}
-use Rattle.std.proofs.lemmas.List.{length-map}
-use Rattle.std.proofs.lemmas.List.Sums.{sum_by-cons}
 use Rattle.std.proofs.lemmas.List.FromFn.{length-range_with_len}
-use Rattle.mask_circuit.specs.declared.gates.Gate.{Gate}
-use Rattle.mask_circuit.specs.declared.gates.Gate.TheVariants.{Ref}
-use Rattle.mask_circuit.specs.Netlist.{Netlist, IsWellFormed, IsCircuit, only_inputs, value_count, is_product, is_refresh}
+use Rattle.mask_circuit.specs.Netlist.{Netlist, IsWellFormed, IsCircuit, only_inputs}
 use Rattle.mask_circuit.specs.Value.{plain}
-use Rattle.mask_circuit.specs.Acceptance.{gate_at, IsTidy, IsStrong}
-use Rattle.mask_circuit.proofs.GateAt.{gate_at_within}
+use Rattle.mask_circuit.specs.Acceptance.{IsStrong}
 use Rattle.mask_parts.specs.CipherCircuits.{size_of, IsCipherCircuit}
 use Rattle.mask_parts.specs.Drafts.{with_gates, with_outputs, bits_of}
 use Rattle.mask_parts.specs.Fences.{with_fence}

@@ -15,7 +15,7 @@ use Rattle.mask_trivium.specs.Trivium.{clocks, outputs, started}
 use Rattle.mask_trivium.specs.NamedTrivium.{named_start, named_step, start_of_bits, step_of_bits}
 use Rattle.mask_trivium.proofs.Concluding.{IsCipherCircuit-named_start, IsCipherCircuit-named_step}
 use Rattle.mask_trivium.proofs.Shifting.{clocks-add}
-use Rattle.mask_trace.specs.Steps.{Public, Plain, Key, State, Registers, Step, kept}
+use Rattle.mask_trace.specs.Steps.{Public, Plain, Key, State, Registers, Step}
 use Rattle.mask_trace.specs.Values.{input_value, step_value, value_after}
 use Rattle.mask_trace.proofs.Beginnings.{value_after-append}
 use Rattle.mask_modes.specs.CounterMode.{block_count}

@@ -1,5 +1,5 @@
 -- The two tables of a clock: which values they let be taken, how many gates they have, and what they compute.
-use Rattle.std.proofs.Common.{◌≡◌, ℕ, Bool, true, List, [], ◌∷◌, length, map, replicate, refl}
+use Rattle.std.proofs.Common.{◌≡◌, ℕ, Bool, true, List, [], ◌∷◌, map, refl}
 use Rattle.mask_circuit.specs.Value.{value_at}
 use Rattle.mask_parts.specs.Tables.{part_gates, part_usable, is_part, part_bits}
 use Rattle.mask_parts.proofs.Counting.{Counts}

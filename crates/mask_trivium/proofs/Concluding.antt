@@ -1,25 +1,19 @@
 -- The named circuits are strong, of their size, and compute Trivium.
-use Rattle.std.proofs.Common.{◌≡◌, ℕ, ◌+◌, ◌*◌, ◌<◌, ◌≤◌, Bool, false, true, cond, List, [], ◌∷◌, ◌++◌, length, map, take, drop, All, refl, sym, ap, ap₂, ◌∙◌, arith, lit≤, length-append}
-use Rattle.std.specs.List.{range_with_len, count_by}
-use Rattle.std.proofs.lemmas.List.{length-map, length-drop, map-append, take_all}
-use Rattle.std.proofs.lemmas.List.Sums.{sum_by-cons}
+use Rattle.std.proofs.Common.{◌≡◌, ℕ, ◌+◌, ◌*◌, ◌≤◌, Bool, false, true, List, ◌++◌, length, take, drop, All, refl, sym, ap, ap₂, ◌∙◌, arith, lit≤, length-append}
+use Rattle.std.specs.List.{range_with_len}
+use Rattle.std.proofs.lemmas.List.{length-drop, map-append, take_all}
 use Rattle.std.proofs.lemmas.List.FromFn.{length-range_with_len}
-use Rattle.std.proofs.lemmas.List.Elements.{All-append, All-nil}
-use Rattle.mask_circuit.specs.declared.gates.Gate.{Gate}
-use Rattle.mask_circuit.specs.declared.gates.Gate.TheVariants.{Ref}
-use Rattle.mask_circuit.specs.Netlist.{Netlist, value_count, product_count, refresh_count, is_product, is_refresh}
-use Rattle.mask_circuit.specs.Value.{value_at, plain_values, plain}
-use Rattle.mask_circuit.specs.Acceptance.{IsStrong}
-use Rattle.mask_parts.specs.CipherCircuits.{Size, size_of, IsCipherCircuit}
-use Rattle.mask_parts.specs.Drafts.{with_gates, with_outputs, bits_of, Grows, IsWithinLimits}
-use Rattle.mask_parts.specs.Fences.{with_fence}
+use Rattle.std.proofs.lemmas.List.Elements.{All-append}
+use Rattle.mask_circuit.specs.Netlist.{Netlist, value_count, product_count, refresh_count}
+use Rattle.mask_circuit.specs.Value.{value_at, plain_values}
+use Rattle.mask_parts.specs.CipherCircuits.{size_of, IsCipherCircuit}
+use Rattle.mask_parts.specs.Drafts.{with_gates, bits_of, Grows, IsWithinLimits}
 use Rattle.mask_parts.specs.Rows.{xor_gates, xor_bits}
-use Rattle.mask_parts.proofs.Concluding.{IsStrong-tidy_fence, IsCipherCircuit-strong, Grows-fence, IsDone, IsStrong-done, IsCipherCircuit-done}
+use Rattle.mask_parts.proofs.Concluding.{Grows-fence, IsDone, IsCipherCircuit-done}
 use Rattle.mask_parts.proofs.Counting.{same_size, size-with_fence, IsWithinLimits-sized}
-use Rattle.mask_parts.proofs.Fencing.{IsWellFormed-fence, plain-with_fence}
-use Rattle.mask_parts.proofs.Growing.{inputs-with_gates, outputs-with_gates, value_count-with_gates, product_count-with_gates, refresh_count-with_gates, Grows-trans, Grows-with_gates, Grows-with_outputs}
+use Rattle.mask_parts.proofs.Growing.{Grows-with_gates}
 use Rattle.mask_parts.proofs.Inputs.{bits-inputs, IsReady-alone}
-use Rattle.mask_parts.proofs.Passing.{IsSound, IsReady, AreOf, AreOf-ready, Passes, Passes-trans, All-later}
+use Rattle.mask_parts.proofs.Passing.{IsReady, AreOf-ready, Passes, Passes-trans, All-later}
 use Rattle.mask_parts.proofs.Ranges.{All-range}
 use Rattle.mask_parts.proofs.Solving.{Solves, Solves-all, Solved, Solved-Grows, Solved-with_gates}
 use Rattle.mask_parts.proofs.XorRows.{Passes-xors, All-xors, bits-xors}

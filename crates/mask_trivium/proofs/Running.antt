@@ -6,7 +6,7 @@ use Rattle.mask_circuit.specs.Netlist.{Netlist, value_count}
 use Rattle.mask_parts.specs.Drafts.{Grows}
 use Rattle.mask_parts.specs.Tables.{is_part, with_part}
 use Rattle.mask_parts.proofs.Growing.{Grows-refl, Grows-trans, Grows-with_gates}
-use Rattle.mask_parts.proofs.Passing.{IsSound, IsReady, Passes, Passes-refl, Passes-trans, Passes-as, All-later, Passes-part, IsReady-part, All-ready-part}
+use Rattle.mask_parts.proofs.Passing.{IsSound, IsReady, Passes, All-later, Passes-part, IsReady-part, All-ready-part}
 use Rattle.mask_parts.proofs.Turns.{RunsTo, Runs-trans, Runs-as, Runs-refl}
 use Rattle.mask_trivium.specs.Clocks.{Clock, Stage, with_clock, with_clocks}
 use Rattle.mask_trivium.proofs.Clocking.{IsClock}

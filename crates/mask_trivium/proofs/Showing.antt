@@ -1,16 +1,14 @@
 -- What the values of a stage stand for: where bits solve all gates, the clocks on values compute the clocks on bits.
-use Rattle.std.proofs.Common.{◌≡◌, ℕ, zero, suc, ◌+◌, Bool, false, true, List, [], ◌∷◌, ◌++◌, length, map, replicate, drop, slice_index_or, refl, sym, ap, ap₂, ◌∙◌}
+use Rattle.std.proofs.Common.{◌≡◌, ℕ, zero, suc, ◌+◌, Bool, false, true, List, [], ◌∷◌, ◌++◌, length, map, refl, sym, ap, ap₂, ◌∙◌}
 use Rattle.std.proofs.lemmas.Bool.{and_parts}
 use Rattle.std.proofs.lemmas.List.{append_assoc, append-nil, map-append}
 use Rattle.std.proofs.lemmas.List.FromFn.{get_or-map-range_with_len}
-use Rattle.mask_circuit.specs.declared.gates.Gate.{Gate}
-use Rattle.mask_circuit.specs.Netlist.{Netlist, value_count}
+use Rattle.mask_circuit.specs.Netlist.{value_count}
 use Rattle.mask_circuit.specs.Value.{value_at}
-use Rattle.mask_parts.specs.Drafts.{with_gates, with_outputs, Grows}
 use Rattle.mask_parts.specs.Tables.{part_usable, part_bits, is_part, with_part}
 use Rattle.mask_parts.proofs.PartGates.{usable-within, part_bits-solved}
 use Rattle.mask_parts.proofs.PartTidiness.{are_usable}
-use Rattle.mask_parts.proofs.Solving.{Solves, Solves-left, Solves-right, Solved, Solved-with_gates, Solved-Grows}
+use Rattle.mask_parts.proofs.Solving.{Solved, Solved-with_gates, Solved-Grows}
 use Rattle.mask_trivium.specs.Clocks.{Clock, Stage, stream, with_clock, with_clocks}
 use Rattle.mask_trivium.specs.Trivium.{clocked, clocks, outputs, output, next_first, next_second, next_third}
 use Rattle.mask_trivium.proofs.Clocking.{IsClock, IsClock-stream}

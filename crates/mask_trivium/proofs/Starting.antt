@@ -1,21 +1,13 @@
 -- The stages that the clocks begin with: they are whole, and their values are the input bits.
-use Rattle.std.proofs.Common.{◌≡◌, ℕ, zero, suc, ◌+◌, ◌<◌, ◌≤◌, Bool, false, Some, List, [], ◌∷◌, length, map, take, drop, All, refl, ap₂, subst, arith, lit≤}
+use Rattle.std.proofs.Common.{◌≤◌, [], ◌∷◌, refl, arith, lit≤}
 use Rattle.std.specs.List.{range_with_len}
-use Rattle.std.proofs.lemmas.List.{drop_more}
-use Rattle.std.proofs.lemmas.List.Elements.{All-nil, All-cons}
-use Rattle.mask_circuit.specs.declared.gates.Gate.{Gate}
+use Rattle.std.proofs.lemmas.List.Elements.{All-nil}
 use Rattle.mask_circuit.specs.declared.gates.Gate.TheVariants.{Zero, One}
-use Rattle.mask_circuit.specs.Netlist.{Netlist, value_count, only_inputs}
-use Rattle.mask_circuit.specs.Value.{value_at, plain_values}
-use Rattle.mask_circuit.specs.Acceptance.{gate_at, IsTidy}
-use Rattle.mask_circuit.proofs.GateAt.{gate_at_within}
+use Rattle.mask_circuit.specs.Netlist.{Netlist, only_inputs}
 use Rattle.mask_parts.specs.Drafts.{with_gates}
-use Rattle.mask_parts.specs.Tidiness.{IsFree, KeepsTidy}
 use Rattle.mask_parts.proofs.Inputs.{IsSound-inputs, All-inputs, IsSound-constants, IsReady-input, IsReady-nought, IsReady-one}
-use Rattle.mask_parts.proofs.Layering.{TakesFree, KeepsTidy-layer}
-use Rattle.mask_parts.proofs.Passing.{IsSound, IsReady}
+use Rattle.mask_parts.proofs.Passing.{IsReady}
 use Rattle.mask_parts.proofs.Ranges.{All-range}
-use Rattle.mask_parts.proofs.Solving.{values_from-keeps}
 use Rattle.mask_trivium.specs.Clocks.{stage}
 use Rattle.mask_trivium.specs.NamedTrivium.{start, given}
 use Rattle.mask_trivium.proofs.Running.{IsFine}

@@ -3,7 +3,7 @@
 --
 -- The clocks without output are computed in four parts, since all at once they need too much memory. In the states between
 -- them, as numbers, s1 weighs 1.
-use Rattle.std.proofs.Common.{◌≡◌, ℕ, zero, suc, ◌+◌, Bool, false, true, List, [], ◌∷◌, replicate, refl, ap, ◌∙◌, arith}
+use Rattle.std.proofs.Common.{◌≡◌, ℕ, Bool, false, true, List, [], ◌∷◌, replicate, refl, ap, ◌∙◌}
 use Rattle.mask_bits.specs.Reading.{lowest, low}
 use Rattle.mask_trivium.specs.Trivium.{loaded, clocked, clocks, outputs, started, bytes, keystream}
 use Rattle.mask_trivium.proofs.Shifting.{clocks-add}

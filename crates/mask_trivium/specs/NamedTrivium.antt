@@ -1,5 +1,5 @@
 -- The circuits of Trivium.
-use Rattle.std.specs.Prelude.{ℕ, Bool, List, [], ◌∷◌, ◌++◌, take, drop}
+use Rattle.std.specs.Prelude.{Bool, List, [], ◌∷◌, ◌++◌, take, drop}
 use Rattle.std.specs.List.{range_with_len}
 use Rattle.mask_circuit.specs.declared.gates.Gate.TheVariants.{Zero, One}
 use Rattle.mask_circuit.specs.Netlist.{Netlist, value_count, only_inputs}
