@@ -1,17 +1,14 @@
 -- A block passed through the S-boxes, one after another: what is made and what is left.
-use Rattle.std.proofs.Common.{◌≡◌, ℕ, zero, suc, ◌+◌, ◌-◌, ◌*◌, ◌<◌, ◌≤◌, List, [], ◌∷◌, ◌++◌, length, take, drop, get_or, set, refl, sym, ap, ◌∙◌, subst, arith}
-use Rattle.std.specs.List.{range_with_len}
-use Rattle.std.proofs.lemmas.List.{length-set, drop_more, length-append, length-take-le, append_assoc, drop-drop, drop_all, take_all, take_at, take_more_set, append-nil}
+use Rattle.std.proofs.Common.{◌≡◌, ℕ, zero, suc, ◌+◌, ◌-◌, ◌*◌, ◌<◌, ◌≤◌, List, ◌++◌, length, take, drop, refl, sym, ap, ◌∙◌, subst, arith}
+use Rattle.std.proofs.lemmas.List.{length-append, length-take-le, append_assoc, drop-drop, take_all, take_at, append-nil}
 use Rattle.mask_circuit.specs.declared.gates.Gate.{Gate}
-use Rattle.mask_circuit.specs.declared.gates.Gate.TheVariants.{Xor}
 use Rattle.mask_circuit.specs.Netlist.{Netlist, value_count}
 use Rattle.mask_parts.specs.Drafts.{with_gates, Grows, IsWithinLimits}
 use Rattle.mask_parts.specs.PresentSbox.{sbox_gates, sbox_results, with_sbox}
-use Rattle.mask_parts.specs.Rows.{xor_gates}
-use Rattle.mask_parts.proofs.Growing.{value_count-with_gates, with_gates-nil, with_gates-with_gates, Grows-refl, Grows-trans, Grows-with_gates}
+use Rattle.mask_parts.proofs.Growing.{with_gates-nil, with_gates-with_gates, Grows-refl, Grows-trans, Grows-with_gates}
 use Rattle.mask_present.proofs.Fitting.{length-with_stretch, length-sbox_results}
 use Rattle.mask_present.proofs.Tidying.{count-with_sbox}
-use Rattle.mask_present.specs.Rounds.{xored, sboxes, sboxes_results, with_stretch}
+use Rattle.mask_present.specs.Rounds.{sboxes, sboxes_results, with_stretch}
 
 -- g of the S-boxes are made: the draft is c, and `results` begins with their results
 pub record HasSubstituted (before c : Netlist) (us results : List ℕ) (g : ℕ) : Type 0 where

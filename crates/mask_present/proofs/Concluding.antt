@@ -1,46 +1,38 @@
 -- The draft before the fence: it is tidy where its gates are formed, and computes PRESENT in counter mode.
-use Rattle.std.proofs.Common.{◌≡◌, ℕ, zero, suc, ◌+◌, ◌<◌, ◌≤◌, Bool, false, List, [], ◌∷◌, ◌++◌, length, map, take, drop, All, Some, refl, sym, ap, ap₂, ◌∙◌, subst, arith, lit≤, bit_xor}
+use Rattle.std.proofs.Common.{◌≡◌, ℕ, ◌+◌, ◌<◌, ◌≤◌, Bool, List, [], length, take, drop, All, refl, sym, ap, ◌∙◌, arith, lit≤, bit_xor}
 use Rattle.std.specs.List.{range_with_len}
-use Rattle.std.proofs.lemmas.List.{length-map, drop_more}
 use Rattle.std.proofs.lemmas.List.FromFn.{length-range_with_len}
-use Rattle.std.proofs.lemmas.List.Elements.{All-nil}
-use Rattle.mask_bits.specs.Reading.{number, lowest}
-use Rattle.mask_bits.proofs.Numbers.{lowest-of}
-use Rattle.mask_circuit.specs.declared.gates.Gate.{Gate}
-use Rattle.mask_circuit.specs.Netlist.{Netlist, IsCircuit, value_count, only_inputs}
-use Rattle.mask_circuit.specs.Value.{value_at, plain_values, plain}
-use Rattle.mask_circuit.specs.Acceptance.{gate_at, IsTidy, IsStrong}
-use Rattle.mask_circuit.proofs.GateAt.{gate_at_within}
+use Rattle.mask_bits.specs.Reading.{number}
+use Rattle.mask_circuit.specs.Netlist.{Netlist, value_count, only_inputs}
+use Rattle.mask_circuit.specs.Value.{plain_values}
+use Rattle.mask_circuit.specs.Acceptance.{IsTidy}
 use Rattle.mask_tasks.specs.declared.sizes.KeySize.{KeySize}
 use Rattle.mask_tasks.specs.declared.sizes.KeySize.TheVariants.{K80, K128}
-use Rattle.mask_parts.specs.CipherCircuits.{Size, size_of, IsCipherCircuit}
 use Rattle.mask_parts.specs.Drafts.{with_gates, bits_of, Grows, IsWithinLimits}
-use Rattle.mask_parts.specs.Fences.{with_fence}
 use Rattle.mask_parts.specs.Rows.{xor_gates}
-use Rattle.mask_parts.proofs.Concluding.{IsStrong-tidy_fence, IsCipherCircuit-strong, Grows-fence}
+use Rattle.mask_parts.proofs.Concluding.{Grows-fence}
 use Rattle.mask_parts.proofs.Counting.{IsWithinLimits-sized}
-use Rattle.mask_parts.proofs.Fencing.{plain-with_fence}
-use Rattle.mask_parts.proofs.Growing.{Grows-trans, Grows-with_gates, Grows-with_outputs, value_count-with_gates, value_count-Grows}
+use Rattle.mask_parts.proofs.Growing.{Grows-trans, Grows-with_gates, value_count-with_gates, value_count-Grows}
 use Rattle.mask_parts.proofs.Inputs.{bits-inputs, IsTidy-inputs, IsReady-alone, All-inputs, AreOf-inputs}
 use Rattle.mask_parts.proofs.Passing.{Formed, Formed-Grows, IsReady}
 use Rattle.mask_parts.proofs.Ranges.{All-range}
-use Rattle.mask_parts.proofs.Solving.{Solves-all, values_from-keeps, Solved, Solved-with_gates, Solved-Grows}
+use Rattle.mask_parts.proofs.Solving.{Solves-all, Solved, Solved-with_gates, Solved-Grows}
 use Rattle.mask_parts.proofs.WordShowing.{shown}
 use Rattle.mask_parts.proofs.XorRows.{Counts-xors, AllTake-xors}
-use Rattle.mask_present.specs.Present.{Register, register, encrypted, present}
-use Rattle.mask_present.specs.NamedPresent.{start, encrypted_message, named_of, named_present, size_present, present_of_bits}
+use Rattle.mask_present.specs.Present.{Register, encrypted}
+use Rattle.mask_present.specs.NamedPresent.{start, encrypted_message, named_of, named_present, size_present}
 use Rattle.mask_present.specs.Rounds.{Stage, stage, xored, rounds}
 use Rattle.mask_present.proofs.Counting.{Adds-message, size-named_present}
-use Rattle.mask_present.proofs.Encrypting.{inputs-Grows, begun-round}
+use Rattle.mask_present.proofs.Encrypting.{begun-round}
 use Rattle.mask_present.proofs.Knowing.{Known-rounds, Known-start}
-use Rattle.mask_present.proofs.Fitting.{IsShape, IsShape-register, Fits-rounds, Fits-start}
+use Rattle.mask_present.proofs.Fitting.{IsShape, Fits-rounds, Fits-start}
 use Rattle.mask_present.proofs.Lengthening.{Lengthens-rounds}
 use Rattle.mask_present.proofs.Showing.{Shows, Shows-rounds, shown-xor_gates}
 use Rattle.mask_present.proofs.Tidying.{IsReady-later, Steady, Steadies-rounds, KeepsWith-layer}
 
 -- THE START
 
-pub Steady-start : (r : Register) → Steady (start r)
+Steady-start : (r : Register) → Steady (start r)
 unfolding start
 Steady-start r =
     let n : ℕ = r.width + 128 in
@@ -49,7 +41,7 @@ Steady-start r =
       ready = record { key = All-inputs n Unit 0 r.width (omega arith); block = All-inputs n Unit r.width 64 (omega arith) };
     }
 
-pub ready-start : (r : Register) (u : ℕ) → u < r.width + 128 → IsReady Unit (start r).draft u
+ready-start : (r : Register) (u : ℕ) → u < r.width + 128 → IsReady Unit (start r).draft u
 unfolding start
 ready-start r u low = IsReady-alone (r.width + 128) Unit u low
 

@@ -1,20 +1,16 @@
 -- How many values, products and refreshes the circuits have.
-use Rattle.std.proofs.Common.{◌≡◌, ℕ, zero, suc, ◌+◌, ◌-◌, ◌*◌, Bool, true, false, cond, List, [], ◌∷◌, ◌++◌, length, take, drop, map, refl, sym, ap, ◌∙◌, arith, length-append, length-drop, fold}
-use Rattle.std.proofs.lemmas.List.Sums.{sum_by-append, sum_by-cons}
+use Rattle.std.proofs.Common.{◌≡◌, ℕ, zero, suc, ◌+◌, ◌-◌, ◌*◌, Bool, true, false, cond, List, [], ◌∷◌, ◌++◌, length, take, drop, refl, sym, ap, ◌∙◌, arith, length-append, length-drop, fold}
+use Rattle.std.proofs.lemmas.List.Sums.{sum_by-append}
 use Rattle.std.proofs.lemmas.List.FromFn.{length-range_with_len}
-use Rattle.std.specs.List.{range_with_len, count_by}
+use Rattle.std.specs.List.{range_with_len}
 use Rattle.mask_bits.specs.Reading.{lowest}
 use Rattle.mask_bits.proofs.Numbers.{length-lowest}
 use Rattle.mask_circuit.specs.declared.gates.Gate.{Gate}
-use Rattle.mask_circuit.specs.declared.gates.Gate.TheVariants.{Xor, Not, Ref}
 use Rattle.mask_circuit.specs.Netlist.{Netlist, value_count, product_count, refresh_count, is_product, is_refresh}
 use Rattle.mask_tasks.specs.declared.sizes.KeySize.{KeySize}
 use Rattle.mask_tasks.specs.declared.sizes.KeySize.TheVariants.{K80, K128}
-use Rattle.mask_parts.specs.CipherCircuits.{Size, size_of}
-use Rattle.mask_parts.specs.Drafts.{with_gates, with_outputs}
-use Rattle.mask_parts.specs.Fences.{with_fence}
+use Rattle.mask_parts.specs.CipherCircuits.{size_of}
 use Rattle.mask_parts.specs.PresentSbox.{sbox_gates, with_sbox}
-use Rattle.mask_parts.specs.Rows.{xor_gates}
 use Rattle.mask_parts.proofs.Counting.{Counts, Adds, Adds-refl, Adds-trans, Adds-with_gates, same_size, size-with_fence}
 use Rattle.mask_parts.proofs.Substituting.{length-sbox_gates, products-sbox_gates, refreshes-sbox_gates}
 use Rattle.mask_parts.proofs.XorRows.{Counts-xors}

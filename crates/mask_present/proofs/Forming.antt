@@ -1,18 +1,16 @@
 -- The gates of the rounds take earlier values, so the named circuits are circuits: strong, of their size, and PRESENT.
-use Rattle.std.proofs.Common.{◌≡◌, ℕ, zero, suc, ◌+◌, ◌-◌, ◌*◌, ◌<◌, ◌≤◌, Bool, true, false, List, [], ◌∷◌, length, take, drop, All, refl, ap, sym, ◌∙◌, subst, arith, fold}
+use Rattle.std.proofs.Common.{◌≡◌, ℕ, zero, suc, ◌+◌, ◌-◌, ◌*◌, ◌<◌, ◌≤◌, Bool, true, false, List, [], ◌∷◌, length, take, drop, All, ap, sym, ◌∙◌, subst, arith, fold}
 use Rattle.std.specs.List.{range_with_len}
 use Rattle.std.proofs.lemmas.List.{length-take-le, length-drop}
 use Rattle.std.proofs.lemmas.List.FromFn.{length-range_with_len}
 use Rattle.std.proofs.lemmas.List.Elements.{All-head, All-tail, All-take, All-drop}
 use Rattle.mask_bits.specs.Reading.{lowest}
-use Rattle.mask_circuit.specs.Netlist.{Netlist, AreGates, IsWellFormed, IsCircuit, value_count}
-use Rattle.mask_circuit.specs.Acceptance.{IsStrong}
+use Rattle.mask_circuit.specs.Netlist.{Netlist, AreGates, value_count}
 use Rattle.mask_tasks.specs.declared.sizes.KeySize.{KeySize}
 use Rattle.mask_parts.specs.CipherCircuits.{IsCipherCircuit}
 use Rattle.mask_parts.specs.PresentSbox.{sbox_gates, with_sbox}
 use Rattle.mask_parts.specs.Rows.{xor_gates}
-use Rattle.mask_parts.proofs.Concluding.{IsDone, IsStrong-done, IsCipherCircuit-done, bits_of-lowest}
-use Rattle.mask_parts.proofs.Fencing.{IsWellFormed-fence}
+use Rattle.mask_parts.proofs.Concluding.{IsDone, IsCipherCircuit-done, bits_of-lowest}
 use Rattle.mask_parts.proofs.Growing.{AreGates-append, AreGates-with_gates}
 use Rattle.mask_parts.proofs.Passing.{Formed}
 use Rattle.mask_parts.proofs.Substituting.{length-sbox_gates, AreGates-sbox}
@@ -135,7 +133,7 @@ Formed-rounds r s shape fits sound =
 Sound-start : (r : Register) → IsShape r → Sound (start r)
 Sound-start r shape = record { formed = (unfold start in tt); known = Known-start r shape }
 
-Formed-message : (r : Register) → IsShape r → Formed (encrypted_message r)
+pub Formed-message : (r : Register) → IsShape r → Formed (encrypted_message r)
 unfolding encrypted_message xored
 Formed-message r shape =
     let end = rounds r (start r) in

@@ -1,13 +1,12 @@
 -- The number of a list of bits: of a rotation, and of a list with a stretch replaced.
-use Rattle.std.proofs.Common.{◌≡◌, ℕ, ◌+◌, ◌*◌, ◌/◌, ◌%◌, ◌^◌, ◌<◌, ◌≤◌, Bool, true, false, List, [], ◌∷◌, ◌++◌, length, take, drop, refl, sym, ap, ◌∙◌, arith, lit<, if◌then◌else◌, bit_xor}
-use Rattle.std.proofs.lemmas.Nat.{pow_pos, div-mul-add, mod-mul-add, xor_block, pow-add}
+use Rattle.std.proofs.Common.{◌≡◌, ℕ, ◌+◌, ◌*◌, ◌/◌, ◌%◌, ◌^◌, ◌<◌, ◌≤◌, Bool, List, ◌++◌, length, take, drop, refl, ap, ◌∙◌, arith, bit_xor}
+use Rattle.std.proofs.lemmas.Nat.{pow_pos, xor_block, pow-add}
 use Rattle.std.specs.Int.Bits.{xor_zero_r}
-use Rattle.std.proofs.lemmas.List.{length-take-le, length-drop, take-append-drop, drop-drop}
-use Rattle.mask_circuit.specs.Value.{xor}
+use Rattle.std.proofs.lemmas.List.{length-take-le, length-drop, drop-drop}
 use Rattle.mask_bits.specs.Reading.{number}
 use Rattle.mask_parts.proofs.NumberParts.{number-split, number_take-lt, number-drop, number-take}
 use Rattle.mask_present.specs.Rounds.{with_stretch}
-use Rattle.mask_bits.proofs.Numbers.{number-append, number-lt}
+use Rattle.mask_bits.proofs.Numbers.{number-append}
 
 -- the highest b bits before the lowest a
 pub number-rotated : (a b : ℕ) (bits : List Bool) → length bits ≡ a + b

@@ -7,11 +7,10 @@ use Rattle.std.proofs.lemmas.Simd.{map-map}
 use Rattle.mask_bits.specs.Reading.{number, lowest}
 use Rattle.mask_bits.proofs.Numbers.{number-append, number-lowest, length-lowest}
 use Rattle.mask_circuit.specs.declared.gates.Gate.{Gate}
-use Rattle.mask_circuit.specs.Netlist.{Netlist, value_count}
+use Rattle.mask_circuit.specs.Netlist.{value_count}
 use Rattle.mask_circuit.specs.Value.{xor, value_at}
 use Rattle.mask_laws.proofs.Bits.{xor-false}
 use Rattle.mask_laws.proofs.Members.{map-same_in}
-use Rattle.mask_parts.specs.Drafts.{with_gates, with_outputs, Grows}
 use Rattle.mask_parts.specs.PresentSbox.{sbox, sbox_gates, sbox_results, with_sbox}
 use Rattle.mask_parts.specs.Rows.{xor_gates, xor_bits}
 use Rattle.mask_parts.proofs.NumberParts.{number-xor_bits, number-take, number-drop}

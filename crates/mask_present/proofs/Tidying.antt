@@ -6,20 +6,20 @@ use Rattle.std.specs.List.{range_with_len}
 use Rattle.std.proofs.lemmas.List.FromFn.{length-range_with_len, get_or-range_with_len}
 use Rattle.mask_bits.specs.Reading.{lowest}
 use Rattle.mask_circuit.specs.declared.gates.Gate.{Gate}
-use Rattle.mask_circuit.specs.declared.gates.Gate.TheVariants.{Xor, Not}
-use Rattle.mask_circuit.specs.Netlist.{Netlist, AreGates, value_count}
+use Rattle.mask_circuit.specs.declared.gates.Gate.TheVariants.{Not}
+use Rattle.mask_circuit.specs.Netlist.{Netlist, value_count}
 use Rattle.mask_circuit.specs.Acceptance.{IsTidy}
-use Rattle.mask_parts.specs.Drafts.{with_gates, with_outputs, Grows}
+use Rattle.mask_parts.specs.Drafts.{with_gates}
 use Rattle.mask_parts.specs.PresentSbox.{sbox_gates, sbox_results, with_sbox}
 use Rattle.mask_parts.specs.Rows.{xor_gates}
 use Rattle.mask_parts.specs.Tidiness.{IsFree, KeepsTidy}
-use Rattle.mask_parts.proofs.Growing.{value_count-with_gates, with_gates-nil, with_gates-with_gates, Grows-with_gates, AreGates-left}
+use Rattle.mask_parts.proofs.Growing.{value_count-with_gates, with_gates-nil, with_gates-with_gates, Grows-with_gates}
 use Rattle.mask_parts.proofs.Keeping.{KeepsTidy-refl, KeepsTidy-then}
 use Rattle.mask_present.specs.Present.{Register}
 use Rattle.mask_present.specs.Rounds.{Stage, xored, sboxes, sboxes_results, not_gates, counter_values, key_added, block_substituted, block_moved, key_rotated, key_replaced, key_counted, key_updated, block_round, stage_after, rounds}
 use Rattle.mask_present.proofs.Fitting.{IsShape, AllWithin, Fits, Fits-key_added, Fits-block_substituted, Fits-block_round, Fits-key_rotated, Fits-key_replaced, Fits-stage_after}
 use Rattle.mask_present.proofs.Lengthening.{Lengthens-key_added, Lengthens-block_substituted, Lengthens-block_round, Lengthens-key_replaced, Lengthens-nibbles, Lengthens-key_counted, Lengthens-key_updated}
-use Rattle.mask_parts.proofs.Layering.{TakesFree, TakesFree-xor, TakesFree-not, KeepsTidy-layer}
+use Rattle.mask_parts.proofs.Layering.{TakesFree, TakesFree-not, KeepsTidy-layer}
 use Rattle.mask_parts.proofs.Passing.{Formed, Formed-Grows, IsReady}
 use Rattle.mask_parts.proofs.Ranges.{All-range}
 use Rattle.mask_parts.proofs.Substituting.{length-sbox_gates, KeepsTidy-sbox}
