@@ -1,35 +1,30 @@
--- The circuit of the end is strong, of its size, and computes the encryption of V xored with the last piece.
-use Rattle.std.proofs.Common.{◌≡◌, ℕ, ◌+◌, ◌<◌, ◌≤◌, Bool, List, [], ◌++◌, length, map, take, drop, All, refl, sym, ap, ◌∙◌, subst, arith, bit_xor}
+-- The end is laid on a sound draft of its size, and computes the encryption of V xored with the last piece.
+use Rattle.std.proofs.Common.{◌≡◌, ℕ, ◌+◌, ◌≤◌, Bool, List, length, take, drop, All, refl, sym, ap, ◌∙◌, subst, arith, bit_xor}
 use Rattle.std.specs.List.{range_with_len}
-use Rattle.std.proofs.lemmas.List.{length-map}
 use Rattle.std.proofs.lemmas.List.FromFn.{length-range_with_len}
-use Rattle.std.proofs.lemmas.List.Elements.{All-nil}
 use Rattle.mask_bits.specs.Reading.{lowest, number}
-use Rattle.mask_bits.proofs.Numbers.{lowest-of}
-use Rattle.mask_circuit.specs.declared.gates.Gate.{Gate}
-use Rattle.mask_circuit.specs.Netlist.{Netlist, IsWellFormed, only_inputs, value_count}
-use Rattle.mask_circuit.specs.Value.{value_at, plain_values, plain}
-use Rattle.mask_circuit.specs.Acceptance.{IsStrong}
+use Rattle.mask_circuit.specs.Netlist.{Netlist, only_inputs, value_count}
+use Rattle.mask_circuit.specs.Value.{plain_values}
 use Rattle.mask_parts.specs.CipherCircuits.{size_of}
 use Rattle.mask_parts.specs.Drafts.{bits_of, Grows}
-use Rattle.mask_parts.specs.Fences.{with_fence}
-use Rattle.mask_parts.proofs.Concluding.{IsStrong-tidy_fence}
-use Rattle.mask_parts.proofs.Fencing.{IsWellFormed-fence, plain-with_fence}
-use Rattle.mask_parts.proofs.Growing.{AreGates-with_gates, Grows-trans, Grows-with_gates, Grows-with_outputs}
-use Rattle.mask_parts.proofs.Solving.{Solves-all}
-use Rattle.mask_present.specs.NamedPresent.{start}
+use Rattle.mask_parts.proofs.Concluding.{Grows-fence, IsDone, bits_of-lowest}
+use Rattle.mask_parts.proofs.Counting.{Adds, Adds-trans, same_size, size-with_fence}
+use Rattle.mask_parts.proofs.Growing.{Grows-trans}
+use Rattle.mask_parts.proofs.Inputs.{bits-inputs, IsSound-inputs, All-inputs}
+use Rattle.mask_parts.proofs.Passing.{Formed, IsReady, Passes, All-later, AreOf, AreOf-ready}
+use Rattle.mask_parts.proofs.Solving.{Solves-all, Solved, Solved-with_gates, Solved-Grows}
+use Rattle.mask_parts.proofs.WordShowing.{shown}
+use Rattle.mask_parts.proofs.XorRows.{Passes-xors, All-xors}
 use Rattle.mask_present.specs.Present.{Register, encrypted}
-use Rattle.mask_present.specs.Rounds.{Stage, xor_gates, xored, rounds}
-use Rattle.mask_present.proofs.Concluding.{Steady-start, ready-start, bits-inputs}
-use Rattle.mask_present.proofs.Counting.{Adds, Adds-trans, Adds-with_gates, Counts, Counts-xor_gates, Adds-rounds, size-with_fence, values_of_rounds, products_of_rounds}
+use Rattle.mask_present.specs.Rounds.{Stage, xored, rounds}
+use Rattle.mask_present.proofs.Counting.{Adds-rounds, values_of_rounds, products_of_rounds}
 use Rattle.mask_present.proofs.Encrypting.{begun-round}
 use Rattle.mask_present.proofs.Fitting.{IsShape, Fits, Fits-rounds}
-use Rattle.mask_present.proofs.Forming.{Sound, AreGates-xor_gates, Formed-rounds}
-use Rattle.mask_present.proofs.Holding.{All-range}
+use Rattle.mask_present.proofs.Forming.{Sound, Formed-rounds}
 use Rattle.mask_present.proofs.Knowing.{Known, Known-rounds}
 use Rattle.mask_present.proofs.Lengthening.{Lengthens-rounds}
-use Rattle.mask_present.proofs.Showing.{Solved, Solved-with_gates, Solved-Grows, Shows-rounds, shown, shown-xor_gates}
-use Rattle.mask_present.proofs.Tidying.{Formed, IsReady, IsReady-later, Steady, Steadies-rounds, KeepsWith-layer, AllTake-xor_gates}
+use Rattle.mask_present.proofs.Showing.{Shows-rounds, shown-xor_gates}
+use Rattle.mask_present.proofs.Tidying.{Steady, Steadies-rounds}
 use Rattle.mask_lightmac.specs.NamedLightMac.{end_start, end_of}
 
 -- THE START
@@ -41,74 +36,51 @@ module _ (r : Register) where
   pub count-inputs : value_count inputs ≡ r.width + 128
   count-inputs = omega arith
 
-  -- the inputs V and the last piece, and the XORs of both
+  -- the inputs V and the last piece
   abbrev pub values : List ℕ
   values = range_with_len r.width 64
 
   abbrev pub pieces : List ℕ
   pieces = range_with_len (r.width + 64) 64
 
-  abbrev xors : List Gate
-  xors = xor_gates values pieces
+  values_long : length values ≡ 64
+  values_long = length-range_with_len r.width 64
 
-  Counts-xors : Counts xors 64 0 0
-  Counts-xors =
-      let one : length values ≡ 64 = length-range_with_len r.width 64 in
-      let two : length pieces ≡ 64 = length-range_with_len (r.width + 64) 64 in
-      rw one at (Counts-xor_gates values pieces (one ∙ sym two))
+  pieces_long : length pieces ≡ 64
+  pieces_long = length-range_with_len (r.width + 64) 64
 
-  pub Adds-end_start : Adds inputs (end_start r).draft 64 0 0
+  ready : (a k : ℕ) → a + k ≤ r.width + 128 → All (IsReady Unit inputs) (range_with_len a k)
+  ready a k within = All-inputs (r.width + 128) Unit a k within
+
+  pub passes-start : Passes Unit inputs (end_start r).draft 64 0
   unfolding end_start xored
-  Adds-end_start = Adds-with_gates inputs xors 64 0 0 Counts-xors
+  passes-start =
+      rw values_long at
+      (Passes-xors Unit inputs values pieces (values_long ∙ sym pieces_long) (IsSound-inputs (r.width + 128) Unit) (ready r.width 64 (omega arith)) (ready (r.width + 64) 64 (omega arith)))
 
-  pub begun-start : Grows inputs (end_start r).draft
+  Steady-end_start : Steady (end_start r)
   unfolding end_start xored
-  begun-start = Grows-with_gates inputs xors
+  Steady-end_start =
+      let sums = All-xors Unit inputs values pieces (values_long ∙ sym pieces_long) (IsSound-inputs (r.width + 128) Unit) (ready r.width 64 (omega arith)) (ready (r.width + 64) 64 (omega arith)) in
+      record {
+        tidy = passes-start.sound.tidy tt;
+        ready = record {
+          key = All-later Unit inputs (end_start r).draft 64 0 (range_with_len 0 r.width) passes-start (ready 0 r.width (omega arith));
+          block = subst (λ n. All (IsReady Unit (end_start r).draft) (range_with_len n 64)) count-inputs (rw values_long at sums);
+        };
+      }
 
   pub Fits-end_start : Fits r (end_start r)
   unfolding end_start
   Fits-end_start = record { key = length-range_with_len 0 r.width; block = length-range_with_len (r.width + 128) 64 }
 
-  pub known-inputs : (a k : ℕ) → a + k ≤ r.width + 128 → All (λ u. u < value_count inputs) (range_with_len a k)
-  known-inputs a k within = All-range (λ u. u < value_count inputs) a k (λ u low high. omega arith)
-
-  pub Known-end_start : Known (end_start r)
-  unfolding end_start
+  Known-end_start : Known (end_start r)
   Known-end_start =
-      let count = Adds-end_start.values in
-      record {
-        values = record {
-          key = All-range (λ u. u < value_count (end_start r).draft) 0 r.width (λ u low high. omega arith);
-          block = All-range (λ u. u < value_count (end_start r).draft) (r.width + 128) 64 (λ u low high. omega arith);
-        };
-      }
-
-  Formed-end_start : Formed (end_start r).draft
-  unfolding end_start xored
-  Formed-end_start =
-      AreGates-with_gates inputs xors tt
-      (AreGates-xor_gates (value_count inputs) (value_count inputs) values pieces (omega arith) (known-inputs r.width 64 (omega arith)) (known-inputs (r.width + 64) 64 (omega arith)))
+      let holds = Steady-end_start.ready in
+      record { values = record { key = AreOf-ready Unit _ _ holds.key; block = AreOf-ready Unit _ _ holds.block } }
 
   Sound-end_start : Sound (end_start r)
-  Sound-end_start = record { formed = Formed-end_start; known = Known-end_start }
-
-  -- inputs in a row may be taken
-  ready-inputs : (a k : ℕ) → a + k ≤ r.width + 128 → All (IsReady inputs) (range_with_len a k)
-  unfolding start
-  ready-inputs a k within = All-range (IsReady inputs) a k (λ u low high. ready-start r u (omega arith))
-
-  Steady-end_start : Steady (end_start r)
-  unfolding end_start xored start
-  Steady-end_start =
-      let takes = AllTake-xor_gates inputs values pieces (ready-inputs r.width 64 (omega arith)) (ready-inputs (r.width + 64) 64 (omega arith)) in
-      let keeps = KeepsWith-layer inputs xors Formed-end_start takes (Steady-start r).tidy in
-      record {
-        tidy = keeps.tidy.tidy;
-        ready = record {
-          key = All-range (IsReady (end_start r).draft) 0 r.width (λ u low high. IsReady-later inputs (end_start r).draft [] keeps.more keeps.tidy u (ready-start r u (omega arith)));
-          block = subst (λ n. All (IsReady (end_start r).draft) (range_with_len n 64)) count-inputs (rw (Counts-xors.gates) at keeps.ready);
-        };
-      }
+  Sound-end_start = record { formed = passes-start.sound.formed; known = Known-end_start }
 
 -- THE ROUNDS
 
@@ -119,7 +91,7 @@ module _ (r : Register) (shape : IsShape r) where
   fits-end : Fits r end
   fits-end = Fits-rounds r (end_start r) shape (Fits-end_start r)
 
-  pub known-end : All (λ u. u < value_count end.draft) end.block
+  pub known-end : AreOf end.draft end.block
   known-end = (Known-rounds r (end_start r) shape (Fits-end_start r) (Known-end_start r)).values.block
 
   formed-end : Formed end.draft
@@ -129,33 +101,32 @@ module _ (r : Register) (shape : IsShape r) where
   begun-end = Grows-trans _ _ _ (begun-round r 31 (end_start r)) (Lengthens-rounds r (end_start r))
 
   pub Grows-end_of : Grows end.draft (end_of r)
-  unfolding end_of with_fence
-  Grows-end_of = Grows-trans _ _ _ (Grows-with_gates end.draft _) (Grows-with_outputs _ _)
-
-  adds : Adds (inputs r) end.draft (64 + (values_of_rounds (length r.nibbles) 31 + 64)) (0 + products_of_rounds (length r.nibbles) 31) (0 + products_of_rounds (length r.nibbles) 31)
-  adds = Adds-trans (inputs r) (end_start r).draft end.draft _ _ _ _ _ _ (Adds-end_start r) (Adds-rounds r (end_start r) shape (Fits-end_start r))
-
-  -- STRENGTH AND SIZE
-
-  pub IsWellFormed-end_of : IsWellFormed (end_of r)
   unfolding end_of
-  IsWellFormed-end_of = IsWellFormed-fence end.draft end.block formed-end known-end adds.outputs
+  Grows-end_of = Grows-fence end.draft end.block
 
-  pub IsStrong-end_of : IsStrong (end_of r)
-  unfolding end_of
-  IsStrong-end_of =
+  adds : Adds (inputs r) end.draft (64 + (values_of_rounds (length r.nibbles) 31 + 64)) (0 + products_of_rounds (length r.nibbles) 31)
+  adds = Adds-trans (inputs r) (end_start r).draft end.draft _ _ _ _ (passes-start r).adds (Adds-rounds r (end_start r) shape (Fits-end_start r))
+
+  pub inputs-end : end.draft.inputs ≡ r.width + 128
+  inputs-end = adds.inputs
+
+  -- behind a fence it's the circuit
+  pub done : IsDone Unit end.draft end.block
+  done =
       let keeps = Steadies-rounds r (end_start r) shape (Fits-end_start r) formed-end (Steady-end_start r) in
-      IsStrong-tidy_fence end.draft end.block formed-end known-end adds.outputs keeps.kept.tidy
+      record { sound = record { formed = formed-end; tidy = λ t. keeps.kept.tidy }; none = adds.outputs; known = known-end }
 
   pub size-end_of : size_of (end_of r) ≡ record {
     inputs = r.width + 128;
     outputs = 64;
-    products = 0 + (0 + products_of_rounds (length r.nibbles) 31);
-    refreshes = 0 + (0 + products_of_rounds (length r.nibbles) 31 + 64);
-    values = r.width + 128 + 0 + (64 + (values_of_rounds (length r.nibbles) 31 + 64) + 64);
+    products = products_of_rounds (length r.nibbles) 31;
+    refreshes = products_of_rounds (length r.nibbles) 31 + 64;
+    values = r.width + (values_of_rounds (length r.nibbles) 31 + 320);
   }
   unfolding end_of
-  size-end_of = size-with_fence (inputs r) end.draft end.block _ _ _ 64 fits-end.block refl adds
+  size-end_of =
+      let v = adds.values in let p = adds.products in let f = adds.refreshes in let block = fits-end.block in
+      size-with_fence end.draft end.block adds.outputs ∙ same_size _ _ inputs-end fits-end.block (omega arith) (omega arith) (omega arith)
 
   -- WHAT IT COMPUTES
 
@@ -173,15 +144,14 @@ module _ (r : Register) (shape : IsShape r) where
     abbrev piece : ℕ
     piece = number (take 64 (drop (r.width + 64) x))
 
-    pub shown-end : shown vs end.block ≡ encrypted r k2 (bit_xor v piece)
+    shown-end : shown vs end.block ≡ encrypted r k2 (bit_xor v piece)
     unfolding end_start xored
     shown-end =
-        let solved : Solved vs end.draft = Solves-all end.draft x (long ∙ sym adds.inputs) formed-end in
+        let solved : Solved vs end.draft = Solves-all end.draft x (long ∙ sym inputs-end) formed-end in
         let first : Solved vs (end_start r).draft = Solved-Grows vs (end_start r).draft end.draft begun-end solved in
         let sums : shown vs (end_start r).block ≡ bit_xor v piece =
         ap (λ n. shown vs (range_with_len n 64)) (omega arith)
-        ∙ shown-xor_gates vs (value_count (inputs r)) 64 (values r) (pieces r) (length-range_with_len r.width 64) (length-range_with_len (r.width + 64) 64)
-        (Solved-with_gates vs (inputs r) (xors r) first).1
+        ∙ shown-xor_gates vs (value_count (inputs r)) 64 (values r) (pieces r) (values_long r) (pieces_long r) (Solved-with_gates vs (inputs r) _ first).1
         ∙ rw (ap number (bits-inputs end.draft x r.width 64 (omega arith)), ap number (bits-inputs end.draft x (r.width + 64) 64 (omega arith))) refl in
         Shows-rounds r vs _ _ (end_start r) shape solved (record {
           fits = Fits-end_start r;
@@ -189,26 +159,14 @@ module _ (r : Register) (shape : IsShape r) where
           block = sums;
         })
 
-    -- the bits of the values that are handed out
-    abbrev bits : List Bool
-    bits = bits_of end.draft x end.block
-
-    bits-long : length bits ≡ 64
+    -- the number of the values that are handed out
+    number-end : number (bits_of end.draft x end.block) ≡ encrypted r k2 (bit_xor v piece)
     unfolding bits_of
-    bits-long = length-map end.block (value_at vs) ∙ fits-end.block
+    number-end = shown-end
 
-    read : encrypted r k2 (bit_xor v piece) ≡ number bits
-    unfolding bits_of
-    read = sym shown-end
-
-    pub plain-end_of : plain (end_of r) x ≡ lowest 64 (encrypted r k2 (bit_xor v piece))
-    unfolding end_of
-    plain-end_of =
-        let none : plain end.draft x ≡ [] = ap (map (value_at vs)) adds.outputs in
-        plain-with_fence end.draft end.block formed-end known-end x (long ∙ sym adds.inputs) (rw adds.outputs (All-nil (λ u. u < value_count end.draft)))
-        ∙ ap (λ (bs : List Bool). bs ++ bits) none
-        ∙ sym (lowest-of bits _ 64 read bits-long)
+    pub bits-end : bits_of end.draft x end.block ≡ lowest 64 (encrypted r k2 (bit_xor v piece))
+    bits-end = bits_of-lowest end.draft x end.block 64 _ fits-end.block number-end
 
     -- 64 bits make the number whole
     pub number-end_of : number (lowest 64 (encrypted r k2 (bit_xor v piece))) ≡ encrypted r k2 (bit_xor v piece)
-    number-end_of = ap number (lowest-of bits _ 64 read bits-long) ∙ sym read
+    number-end_of = ap number (sym bits-end) ∙ number-end

@@ -10,8 +10,8 @@ ghost use Rattle.mask_lightmac.specs.NamedLightMac.{named_step, size_step, step_
 
 use mask_check::Strong;
 use mask_circuit::{Builder, Circuit, CircuitError, Steps};
-use mask_parts::{fence_outputs, strong_circuit};
-use mask_present::{KeySize, number_from, present_circuit, present_rounds, xor_blocks};
+use mask_parts::{fence_outputs, number_from, strong_circuit};
+use mask_present::{KeySize, present_circuit, present_rounds, xor_blocks};
 use std::alloc::{AllocError, Global};
 use std::sync::ledger::Ledger;
 

@@ -32,7 +32,7 @@ use Rattle.mask_present.proofs.Tidying.{IsReady-later, Steady, Steadies-rounds, 
 
 -- THE START
 
-pub Steady-start : (r : Register) → Steady (start r)
+Steady-start : (r : Register) → Steady (start r)
 unfolding start
 Steady-start r =
     let n : ℕ = r.width + 128 in
@@ -41,7 +41,7 @@ Steady-start r =
       ready = record { key = All-inputs n Unit 0 r.width (omega arith); block = All-inputs n Unit r.width 64 (omega arith) };
     }
 
-pub ready-start : (r : Register) (u : ℕ) → u < r.width + 128 → IsReady Unit (start r).draft u
+ready-start : (r : Register) (u : ℕ) → u < r.width + 128 → IsReady Unit (start r).draft u
 unfolding start
 ready-start r u low = IsReady-alone (r.width + 128) Unit u low
 

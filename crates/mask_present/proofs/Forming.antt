@@ -133,7 +133,7 @@ Formed-rounds r s shape fits sound =
 Sound-start : (r : Register) → IsShape r → Sound (start r)
 Sound-start r shape = record { formed = (unfold start in tt); known = Known-start r shape }
 
-Formed-message : (r : Register) → IsShape r → Formed (encrypted_message r)
+pub Formed-message : (r : Register) → IsShape r → Formed (encrypted_message r)
 unfolding encrypted_message xored
 Formed-message r shape =
     let end = rounds r (start r) in

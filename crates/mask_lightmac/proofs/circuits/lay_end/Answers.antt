@@ -1,22 +1,25 @@
-use Rattle.std.proofs.Common.{◌≡◌, ◌+◌, ◌-◌, ◌*◌, ℕ, List, length, take, drop, All, refl, sym, ap, ◌∙◌, arith, rules}
+use Rattle.std.proofs.Common.{◌≡◌, ◌+◌, ◌-◌, ◌*◌, ◌<◌, ℕ, List, length, take, drop, refl, sym, ap, ◌∙◌, arith, rules}
 use Rattle.std.specs.List.{range_with_len}
-use Rattle.std.proofs.lemmas.List.Elements.{All-take, All-drop, All-weaker}
+use Rattle.std.proofs.lemmas.List.Elements.{All-take, All-drop}
 use Rattle.mask_circuit.specs.Netlist.{Netlist, value_count}
 use Rattle.mask_tasks.specs.declared.sizes.KeySize.{KeySize}
 use Rattle.mask_tasks.specs.declared.sizes.KeySize.TheVariants.{K80, K128}
 use Rattle.mask_tasks.specs.Sizes.{present_bytes}
 use Rattle.mask_parts.specs.Drafts.{with_gates, Grows}
+use Rattle.mask_parts.specs.Rows.{xor_gates}
 use Rattle.mask_parts.proofs.Growing.{value_count-with_gates, Grows-refl, Grows-trans, Grows-with_gates}
+use Rattle.mask_parts.proofs.Inputs.{AreOf-inputs}
 use Rattle.mask_parts.proofs.Laying.{Lays-exit, Lays-last}
+use Rattle.mask_parts.proofs.Passing.{AreOf, AreOf-Grows}
+use Rattle.mask_parts.proofs.Ranges.{All-range}
+use Rattle.mask_parts.proofs.XorRows.{Counts-xors}
 use Rattle.mask_present.specs.Present.{register}
-use Rattle.mask_present.specs.Rounds.{stage, xor_gates, xored, rounds}
-use Rattle.mask_present.proofs.Counting.{Counts-xor_gates}
+use Rattle.mask_present.specs.Rounds.{stage, xored, rounds}
 use Rattle.mask_present.proofs.Encrypting.{Fits-stage, Known-stage}
 use Rattle.mask_present.proofs.Fitting.{IsShape-register}
-use Rattle.mask_present.proofs.Holding.{All-range}
-use Rattle.mask_present.proofs.Knowing.{Below, Below-Grows, Known-rounds}
+use Rattle.mask_present.proofs.Knowing.{Known-rounds}
 use Rattle.mask_lightmac.specs.NamedLightMac.{end_start, end_of, named_end}
-use Rattle.mask_lightmac.proofs.Ending.{inputs, values, pieces, end, count-inputs, known-inputs, begun-start, begun-end, Grows-end_of}
+use Rattle.mask_lightmac.proofs.Ending.{inputs, values, pieces, end, count-inputs, passes-start, begun-end, Grows-end_of}
 use Rattle.mask_lightmac.proofs.circuits.lay_end.Goals as goal
 
 -- THE INPUTS
@@ -46,24 +49,24 @@ inputs_are K128 bytes places at is = rw (at, is) (record { all = refl; value = r
 
 -- WHAT IS A VALUE
 
-inputs_known : (size : KeySize) (b : Netlist) (bytes : ℕ) (places : List ℕ) → b ≡ inputs (register size) → AreInputs size bytes places → All (Below b) (numbers bytes places)
-inputs_known size b bytes places draft are = rw (draft, are.all) (known-inputs (register size) 0 ((register size).width + 128) (omega arith))
+inputs_known : (size : KeySize) (b : Netlist) (bytes : ℕ) (places : List ℕ) → b ≡ inputs (register size) → AreInputs size bytes places → AreOf b (numbers bytes places)
+inputs_known size b bytes places draft are = rw (draft, are.all) (AreOf-inputs ((register size).width + 128) 0 ((register size).width + 128) (omega arith))
 
 -- behind XORs too, as are these
-later_known : (b c : Netlist) (us vs ws : List ℕ) → c ≡ xored b us vs → All (Below b) ws → All (Below c) ws
+later_known : (b c : Netlist) (us vs ws : List ℕ) → c ≡ xored b us vs → AreOf b ws → AreOf c ws
 unfolding xored
-later_known b c us vs ws made known = rw made (All-weaker (Below b) _ (Below-Grows b _ (Grows-with_gates b (xor_gates us vs))) ws known)
+later_known b c us vs ws made known = rw made (AreOf-Grows b _ ws (Grows-with_gates b (xor_gates us vs)) known)
 
-sums_known : (b c : Netlist) (us vs sums : List ℕ) → length us ≡ 64 → length vs ≡ 64 → c ≡ xored b us vs → sums ≡ range_with_len (value_count b) 64 → All (Below c) sums
+sums_known : (b c : Netlist) (us vs sums : List ℕ) → length us ≡ 64 → length vs ≡ 64 → c ≡ xored b us vs → sums ≡ range_with_len (value_count b) 64 → AreOf c sums
 unfolding xored
 sums_known b c us vs sums long long' made is =
     let count : value_count (with_gates b (xor_gates us vs)) ≡ value_count b + length us =
-    value_count-with_gates b (xor_gates us vs) ∙ ap (λ n. value_count b + n) (Counts-xor_gates us vs (long ∙ sym long')).gates in
-    rw (made, is) (All-range (Below (with_gates b (xor_gates us vs))) (value_count b) 64 (λ u low high. omega arith))
+    value_count-with_gates b (xor_gates us vs) ∙ ap (λ n. value_count b + n) (Counts-xors us vs (long ∙ sym long')).gates in
+    rw (made, is) (All-range (λ u. u < value_count (with_gates b (xor_gates us vs))) (value_count b) 64 (λ u low high. omega arith))
 
 -- behind the rounds the block is
-block_known : (size : KeySize) (c d : Netlist) (key block result : List ℕ) → length key ≡ (register size).width → length block ≡ 64 → All (Below c) key → All (Below c) block
-    → d ≡ (rounds (register size) (stage c key block)).draft → result ≡ (rounds (register size) (stage c key block)).block → All (Below d) result
+block_known : (size : KeySize) (c d : Netlist) (key block result : List ℕ) → length key ≡ (register size).width → length block ≡ 64 → AreOf c key → AreOf c block
+    → d ≡ (rounds (register size) (stage c key block)).draft → result ≡ (rounds (register size) (stage c key block)).block → AreOf d result
 block_known size c d key block result key_long long key_known known made is =
     rw (made, is) (Known-rounds (register size) (stage c key block) (IsShape-register size) (Fits-stage (register size) c key block key_long long) (Known-stage c key block key_known known)).values.block
 
@@ -113,7 +116,7 @@ present_rounds-requires-clause-key_known c =
     let are = inputs_are c.args.size c.bytes.result c.number_from.new.places c.bytes.ensures c.number_from.ensures in
     let known = inputs_known c.args.size c.args.b.now c.bytes.result c.number_from.new.places c.requires are in
     let later = later_known c.args.b.now c.xor_blocks.new.b _ _ _ c.in_ok-sums.ensures.1 known in
-    search (rules, All-take, All-drop, later)
+    search (rules, All-take, later)
 
 pub present_rounds-requires-clause-state_known : goal.present_rounds-requires-clause-state_known
 present_rounds-requires-clause-state_known c =
@@ -135,8 +138,8 @@ fence_outputs-requires c =
     let later = later_known c.args.b.now c.xor_blocks.new.b _ _ _ c.in_ok-sums.ensures.1 known in
     let sums = sums_known c.args.b.now c.xor_blocks.new.b _ _ _ (search rules) (search rules) c.in_ok-sums.ensures.1 c.in_ok-sums.ensures.0 in
     let encrypted = block_known c.args.size c.xor_blocks.new.b c.present_rounds.new.b _ c.in_ok-sums.sums c.in_ok-encrypted.encrypted (search rules) (search rules)
-    (search (rules, All-take, All-drop, later)) sums c.in_ok-encrypted.ensures.laid.1 c.in_ok-encrypted.ensures.laid.0 in
-    search (rules, All-take, All-drop, encrypted)
+    (search (rules, All-take, later)) sums c.in_ok-encrypted.ensures.laid.1 c.in_ok-encrypted.ensures.laid.0 in
+    search (rules, encrypted)
 
 pub returns : goal.returns
 unfolding named_end end_of
@@ -145,5 +148,5 @@ returns c =
     let are = inputs_are size c.bytes.result c.number_from.new.places c.bytes.ensures c.number_from.ensures in
     let start = start_is size c.bytes.result c.number_from.new.places b c.xor_blocks.new.b c.in_ok-sums.sums are c.requires c.in_ok-sums.ensures.0 c.in_ok-sums.ensures.1 in
     let laid = rw start at c.in_ok-encrypted.ensures.laid in
-    let grows : Grows b (end_start r).draft = rw c.requires (begun-start r) in
+    let grows : Grows b (end_start r).draft = rw c.requires (passes-start r).grows in
     Lays-last b (end r shape).draft _ _ _ _ _ _ (Grows-trans b (end_start r).draft _ grows (begun-end r shape)) refl refl (rw (laid.1, laid.0) at c.fence_outputs.ensures.laid)
