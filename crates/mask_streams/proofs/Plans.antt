@@ -138,14 +138,14 @@ hidden (x ∷ xs) [] e = absurd (omega arith)
 hidden (x ∷ xs) (y ∷ ys) e = ap (λ l. Plain false ∷ l) (hidden xs ys (omega arith))
 
 -- inputs with as many message bits are the same but for these
-inputs_are_alike : (front : List InputBit) (xs ys : List Bool) → length xs ≡ length ys →
+pub inputs_are_alike : (front : List InputBit) (xs ys : List Bool) → length xs ≡ length ys →
     map without_message (front ++ map Plain xs) ≡ map without_message (front ++ map Plain ys)
 inputs_are_alike front xs ys e =
     map-append without_message front (map Plain xs)
     ∙ ap (λ l. map without_message front ++ l) (hidden xs ys e)
     ∙ sym (map-append without_message front (map Plain ys))
 
-abbrev with_inputs : List InputBit → Step → Step
+abbrev pub with_inputs : List InputBit → Step → Step
 with_inputs is s = record { circuit = s.circuit; inputs = is; keeps = s.keeps }
 
 streams_are_alike : (parts others : List (List ℕ)) → All (λ block. length block ≡ 8) parts →
@@ -239,14 +239,14 @@ plan_is_strong : (iv message : List ℕ) → length iv ≡ 10 → IsStrongPlan 8
 plan_is_strong iv message ten = piece_is_strong iv 0 0 message ten (λ some. absurd (omega arith))
 
 -- the first steps of a strong plan are one
-first_are_strong : (k s count : ℕ) (steps : List Step) → IsStrongPlan k s steps → IsStrongPlan k s (take count steps)
+pub first_are_strong : (k s count : ℕ) (steps : List Step) → IsStrongPlan k s steps → IsStrongPlan k s (take count steps)
 first_are_strong k s zero steps strong = tt
 first_are_strong k s (suc count) [] strong = tt
 first_are_strong k s (suc count) (step ∷ steps) strong =
     (strong.0, first_are_strong k (state_after step.keeps step.circuit s) count steps strong.1)
 
 -- those of alike steps are alike
-first_are_alike : (count : ℕ) (ss ts : List Step) → AreAlike ss ts → AreAlike (take count ss) (take count ts)
+pub first_are_alike : (count : ℕ) (ss ts : List Step) → AreAlike ss ts → AreAlike (take count ss) (take count ts)
 first_are_alike count ss ts alike = sym (take-map blank count ss) ∙ ap (take count) alike ∙ take-map blank count ts
 
 pub plans_are_strong : PlansAreStrong

@@ -26,14 +26,14 @@ use Rattle.mask_streams.proofs.Plans.{block_steps-map}
 -- GATES
 
 -- d + 1 shares have so many pairs
-pairs_of_shares : (d : ℕ) → gate_bits d ≡ length (pairs (suc d))
+pub pairs_of_shares : (d : ℕ) → gate_bits d ≡ length (pairs (suc d))
 pairs_of_shares d =
     let one_less : suc d - 1 ≡ d = omega arith in
     let twice : d * suc d ≡ suc d * (suc d - 1) = rw one_less (omega arith) in
     ap (λ (n : ℕ). n / 2) twice ∙ sym (length-pairs (suc d))
 
 -- the products and refreshes of a circuit of this size draw a bit for each pair
-draws-gates : (c : Netlist) (size : Size) (d gates : ℕ) → size_of c ≡ size → size.products + size.refreshes ≡ gates →
+pub draws-gates : (c : Netlist) (size : Size) (d gates : ℕ) → size_of c ≡ size → size.products + size.refreshes ≡ gates →
     draws c (suc d) ≡ gates * gate_bits d
 unfolding size_of
 draws-gates c size d gates is all =
@@ -45,7 +45,7 @@ draws-gates c size d gates is all =
 -- STEPS
 
 -- the message bits behind others
-plain_bits-behind : (front back : List InputBit) (message : List Bool) → plain_bits front ≡ [] → plain_bits back ≡ message →
+pub plain_bits-behind : (front back : List InputBit) (message : List Bool) → plain_bits front ≡ [] → plain_bits back ≡ message →
     plain_bits (front ++ back) ≡ message
 plain_bits-behind front back message none bits =
     inputs_stand_in_parts.bits_of_both front back ∙ ap₂ (λ (l r : List Bool). l ++ r) none bits

@@ -1,0 +1,3 @@
+pub mod ChaskeyRuns
+pub mod Codes
+pub mod Laws
