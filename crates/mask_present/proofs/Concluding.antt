@@ -40,7 +40,7 @@ no_gate n p g is = let within = gate_at_within (only_inputs n) p g is in omega a
 ready-input : (n u : ℕ) → u < n → IsReady (only_inputs n) u
 ready-input n u low = record { below = omega arith; free = λ p v is. no_gate n p _ is }
 
-Steady-start : (r : Register) → Steady (start r)
+pub Steady-start : (r : Register) → Steady (start r)
 unfolding start
 Steady-start r = record {
   tidy = record {
@@ -54,7 +54,7 @@ Steady-start r = record {
   };
 }
 
-ready-start : (r : Register) (u : ℕ) → u < r.width + 128 → IsReady (start r).draft u
+pub ready-start : (r : Register) (u : ℕ) → u < r.width + 128 → IsReady (start r).draft u
 unfolding start
 ready-start r u low = ready-input (r.width + 128) u low
 
@@ -74,7 +74,7 @@ known-inputs r b us a k draft is within = rw (draft, is) (All-range (λ u. u < r
 -- INPUTS
 
 -- the bits of inputs in a row
-bits-inputs : (c : Netlist) (x : List Bool) (a k : ℕ) → a + k ≤ length x → map (value_at (plain_values c x)) (range_with_len a k) ≡ take k (drop a x)
+pub bits-inputs : (c : Netlist) (x : List Bool) (a k : ℕ) → a + k ≤ length x → map (value_at (plain_values c x)) (range_with_len a k) ≡ take k (drop a x)
 bits-inputs c x a zero within = refl
 bits-inputs c x a (suc k) within =
     rw (drop_more x a false (omega arith))
@@ -138,7 +138,7 @@ module _ (r : Register) (shape : IsShape r) where
   inputs-message : (encrypted_message r).inputs ≡ r.width + 128
   inputs-message = (Adds-message r shape).inputs ∙ (unfold start in refl)
 
-  bits_of_sums : (x : List Bool) → length x ≡ r.width + 128 → Formed (encrypted_message r)
+  pub bits_of_sums : (x : List Bool) → length x ≡ r.width + 128 → Formed (encrypted_message r)
       → number (bits_of (encrypted_message r) x sums)
       ≡ bit_xor (encrypted r (number (take r.width x)) (number (take 64 (drop r.width x)))) (number (take 64 (drop (r.width + 64) x)))
   unfolding encrypted_message xored bits_of

@@ -184,19 +184,19 @@ Adds-rounds r s shape fits =
     (Adds-trans s.draft before.draft _ _ _ _ _ _ _ (Adds-stage_after r 31 s shape fits) (Adds-key_added r before shape (Fits-stage_after r 31 s shape fits)))
 
 -- 31 rounds of both sizes
-values_80 : values_of_rounds 1 31 ≡ 15766
+pub values_80 : values_of_rounds 1 31 ≡ 15766
 unfolding values_of_rounds ones
 values_80 = refl
 
-values_128 : values_of_rounds 2 31 ≡ 16572
+pub values_128 : values_of_rounds 2 31 ≡ 16572
 unfolding values_of_rounds ones
 values_128 = refl
 
-products_80 : products_of_rounds 1 31 ≡ 2635
+pub products_80 : products_of_rounds 1 31 ≡ 2635
 unfolding products_of_rounds
 products_80 = refl
 
-products_128 : products_of_rounds 2 31 ≡ 2790
+pub products_128 : products_of_rounds 2 31 ≡ 2790
 unfolding products_of_rounds
 products_128 = refl
 
@@ -223,11 +223,11 @@ Adds-message r shape =
     (Adds-with_gates end.draft _ 64 0 0 (rw block at (Counts-xor_gates end.block (range_with_len (r.width + 64) 64) same))))
 
 -- sizes are equal by their parts
-same_size : (a b : Size) → a.inputs ≡ b.inputs → a.outputs ≡ b.outputs → a.products ≡ b.products → a.refreshes ≡ b.refreshes → a.values ≡ b.values → a ≡ b
+pub same_size : (a b : Size) → a.inputs ≡ b.inputs → a.outputs ≡ b.outputs → a.products ≡ b.products → a.refreshes ≡ b.refreshes → a.values ≡ b.values → a ≡ b
 same_size a b i o p f v = λ t. record { inputs = i t; outputs = o t; products = p t; refreshes = f t; values = v t }
 
 -- a draft without outputs that is fenced
-size-with_fence : (d c : Netlist) (us : List ℕ) (v p f n : ℕ) → length us ≡ n → d.outputs ≡ [] → Adds d c v p f
+pub size-with_fence : (d c : Netlist) (us : List ℕ) (v p f n : ℕ) → length us ≡ n → d.outputs ≡ [] → Adds d c v p f
     → size_of (with_fence c us) ≡ record {
       inputs = d.inputs;
       outputs = n;

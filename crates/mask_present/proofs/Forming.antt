@@ -21,7 +21,7 @@ use Rattle.mask_present.proofs.Tidying.{Formed}
 
 -- GATES ON VALUES BELOW n, the first of which makes value m
 
-AreGates-xor_gates : (n m : ℕ) (us vs : List ℕ) → n ≤ m → All (λ u. u < n) us → All (λ u. u < n) vs → AreGates m (xor_gates us vs)
+pub AreGates-xor_gates : (n m : ℕ) (us vs : List ℕ) → n ≤ m → All (λ u. u < n) us → All (λ u. u < n) vs → AreGates m (xor_gates us vs)
 unfolding xor_gates
 AreGates-xor_gates n m [] vs le one two = tt
 AreGates-xor_gates n m (u ∷ us) [] le one two = tt
@@ -54,9 +54,9 @@ AreGates-sboxes (suc k) n m us le long one =
 -- STAGES
 
 -- a stage with a formed draft whose values it knows
-record Sound (s : Stage) : Type 0 where
-  formed : Formed s.draft
-  known : Known s
+pub record Sound (s : Stage) : Type 0 where
+  pub formed : Formed s.draft
+  pub known : Known s
 
 Formed-key_added : (r : Register) (s : Stage) → Sound s → Formed (key_added r s).draft
 unfolding key_added xored
@@ -126,7 +126,7 @@ Formed-stage_after r (suc i) s shape fits sound =
       known = Known-block_round r t shape fits_t known;
     })
 
-Formed-rounds : (r : Register) (s : Stage) → IsShape r → Fits r s → Sound s → Formed (rounds r s).draft
+pub Formed-rounds : (r : Register) (s : Stage) → IsShape r → Fits r s → Sound s → Formed (rounds r s).draft
 unfolding rounds
 Formed-rounds r s shape fits sound =
     Formed-key_added r (stage_after r 31 s) (record {

@@ -28,8 +28,8 @@ fn width(size: KeySize) -> u32
     }
 }
 
-// Numbers the places, from `first` on.
-fn number_from(places: &mut [u32], first: u32)
+/// Numbers the places, from `first` on.
+pub fn number_from(places: &mut [u32], first: u32)
     requires { first + length places.old ≤ 2 ^ 32 }
     ensures { places.new ≡ range_with_len first (length places.old) }
 {

@@ -10,8 +10,9 @@ mod round;
 mod rounds;
 mod schedule;
 
-pub use circuits::present_circuit;
+pub use circuits::{number_from, present_circuit};
 pub use mask_tasks::KeySize;
+pub use round::xor_blocks;
 pub use rounds::present_rounds;
 
 #[cfg(test)]

@@ -21,7 +21,7 @@ fn xor(b: &mut Builder, u: u32, v: u32) -> Result<u32, CircuitError>
 }
 
 /// The XOR of two blocks.
-pub(crate) fn xor_blocks(b: &mut Builder, us: &[u32], vs: &[u32]) -> Result<[u32; 64], CircuitError>
+pub fn xor_blocks(b: &mut Builder, us: &[u32], vs: &[u32]) -> Result<[u32; 64], CircuitError>
     requires us_block { length us.now ≡ 64 }
     requires vs_block { length vs.now ≡ 64 }
     requires us_known { All (λ u. u < value_count b.old) us.now }

@@ -1,0 +1,4 @@
+pub mod Concluding
+pub mod Ending
+mod LightMacVectors
+pub mod Tags

@@ -1,0 +1,2 @@
+pub mod LightMac
+pub mod NamedLightMac
