@@ -20,7 +20,8 @@ use Rattle.mask_streams.proofs.TapeBits.{draws-gates, plain_bits-behind}
 use Rattle.mask_macs.specs.ChaskeyRuns.{block_of, block_step, block_steps, chaskey_bits, chaskey_plan, end_step, start_step}
 use Rattle.mask_macs.specs.Codes.{chaskey_code}
 use Rattle.mask_macs.specs.Laws.{RunBits}
-use Rattle.mask_macs.proofs.ChaskeyBlocks.{length-block_of, length-padded}
+use Rattle.mask_macs.proofs.ChaskeyBlocks.{length-padded}
+use Rattle.mask_macs.proofs.Pieces.{length-piece_of}
 
 -- the bits that a block draws, be it the last or not
 abbrev block_bits : ℕ → ℕ
@@ -68,7 +69,7 @@ bits-blocks d message zero within = omega arith
 bits-blocks d message (suc n) within =
     let one = bits_of-cons (suc d) (block_step (block_of message n)) [] in
     let all = bits-blocks d message n (omega arith) in
-    let last = stretch-block d (block_of message n) (length-block_of message n (omega arith)) in
+    let last = stretch-block d (block_of message n) (length-piece_of 16 (omega arith) message n (omega arith)) in
     let b = block_bits d in
     let sum : n * b + (b + 0) ≡ suc n * b = omega arith in
     traces_split.bits (suc d) (block_steps message n) (block_step (block_of message n) ∷ [])

@@ -1,72 +1,40 @@
--- The blocks of a message as Chaskey takes them, in whole blocks and what follows them.
-use Rattle.std.proofs.Common.{◌≡◌, ℕ, zero, suc, ◌+◌, ◌-◌, ◌*◌, ◌/◌, ◌%◌, ◌<◌, ◌≤◌, ◌==◌, Bool, true, false, cond, if◌then◌else◌, List, [], ◌∷◌, ◌++◌, length, take, drop, replicate, inl, inr, refl, ap, ap₂, sym, ◌∙◌, arith, length-append, length-drop}
-use Rattle.std.proofs.lemmas.Bool.{cases_lt, eqb-true, eqb-false}
-use Rattle.std.proofs.lemmas.List.{drop-append-le, drop_at, length-replicate, length-take-le, take-append-le, take_all}
+-- The last block of a message as Chaskey takes it.
+use Rattle.std.proofs.Common.{◌≡◌, ℕ, suc, ◌+◌, ◌-◌, ◌*◌, ◌/◌, ◌≤◌, ◌==◌, Bool, true, false, if◌then◌else◌, List, [], ◌∷◌, ◌++◌, length, replicate, refl, ap, ap₂, sym, ◌∙◌, arith, length-append, length-drop}
+use Rattle.std.proofs.lemmas.Bool.{eqb-true, eqb-false}
+use Rattle.std.proofs.lemmas.List.{length-replicate}
 use Rattle.mask_chaskey.specs.declared.doubling.End.{End}
 use Rattle.mask_chaskey.specs.declared.doubling.End.TheVariants.{Whole, Short}
 use Rattle.mask_chaskey.specs.Chaskey.{blocks_before, end_of, last_bytes, padded}
-use Rattle.mask_macs.specs.ChaskeyRuns.{block_of}
+use Rattle.mask_macs.proofs.Pieces.{IsLast, count-last, last-is, length-last}
 
--- A last piece of at most sixteen bytes behind whole blocks.
-pub record IsLast (front piece : List ℕ) : Type 0 where
-  pub whole : length front % 16 ≡ 0
-  pub few : length piece ≤ 16
-  pub some : 0 < length front → 0 < length piece
+-- BEHIND WHOLE BLOCKS
 
--- WHOLE BLOCKS
-
--- a block of sixteen bytes
-pub length-block_of : (message : List ℕ) (i : ℕ) → 16 * i + 16 ≤ length message → length (block_of message i) ≡ 16
-length-block_of message i within = length-take-le 16 (drop (16 * i) message) (omega (arith, length-drop (16 * i) message))
-
--- a block of what comes first
-pub block_of-front : (front rest : List ℕ) (i : ℕ) → 16 * i + 16 ≤ length front → block_of (front ++ rest) i ≡ block_of front i
-block_of-front front rest i within =
-    ap (take 16) (drop-append-le (16 * i) front rest (omega arith))
-    ∙ take-append-le 16 (drop (16 * i) front) rest (omega (arith, length-drop (16 * i) front))
-
--- the block behind that
-pub block_of-next : (front piece : List ℕ) (i : ℕ) → length front ≡ 16 * i → length piece ≡ 16 → block_of (front ++ piece) i ≡ piece
-block_of-next front piece i whole size =
-    ap (take 16) (drop_at front piece (16 * i) whole) ∙ take_all 16 piece (omega arith)
-
--- THE LAST PIECE
-
-pub blocks_before-last : (front piece : List ℕ) → IsLast front piece → blocks_before (front ++ piece) ≡ length front / 16
+pub blocks_before-last : (front piece : List ℕ) → IsLast 16 front piece → blocks_before (front ++ piece) ≡ length front / 16
 unfolding blocks_before
-blocks_before-last front piece is =
-    let whole = is.whole in
-    elim (cases_lt 0 (length front)) [
-      | inl some ↦ omega (arith, length-append front piece, is.few, is.some some)
-      | inr none ↦ omega (arith, length-append front piece, is.few)
-    ]
+blocks_before-last front piece is = count-last 16 (omega arith) front piece is
 
-pub last_bytes-last : (front piece : List ℕ) → IsLast front piece → last_bytes (front ++ piece) ≡ piece
-unfolding last_bytes
-last_bytes-last front piece is =
-    let whole = is.whole in
-    let count = blocks_before-last front piece is in
-    drop_at front piece (16 * blocks_before (front ++ piece)) (omega arith)
+pub last_bytes-last : (front piece : List ℕ) → IsLast 16 front piece → last_bytes (front ++ piece) ≡ piece
+unfolding last_bytes blocks_before
+last_bytes-last front piece is = last-is 16 (omega arith) front piece is
 
--- what is a last piece alone
-alone : (piece : List ℕ) → length piece ≤ 16 → IsLast [] piece
-alone piece few = record { whole = refl; few = few; some = λ some. absurd (omega arith) }
-
+-- a piece alone
 pub last_bytes-alone : (piece : List ℕ) → length piece ≤ 16 → last_bytes piece ≡ piece
-last_bytes-alone piece few = last_bytes-last [] piece (alone piece few)
+last_bytes-alone piece few = last_bytes-last [] piece (record { whole = refl; few = few; some = λ some. absurd (omega arith) })
 
 -- a message ends as its last piece
-pub end_of-last : (front piece : List ℕ) → IsLast front piece → end_of (front ++ piece) ≡ end_of piece
+pub end_of-last : (front piece : List ℕ) → IsLast 16 front piece → end_of (front ++ piece) ≡ end_of piece
 unfolding end_of
 end_of-last front piece is =
     ap (λ (bytes : List ℕ). if length bytes == 16 then Whole else Short)
     (last_bytes-last front piece is ∙ sym (last_bytes-alone piece is.few))
 
--- A last block has sixteen bytes.
-pub length-last_bytes : (message : List ℕ) → length (last_bytes message) ≤ 16
-unfolding last_bytes blocks_before
-length-last_bytes message = omega (arith, length-drop (16 * ((length message - 1) / 16)) message)
+-- ITS LENGTH
 
+length-last_bytes : (message : List ℕ) → length (last_bytes message) ≤ 16
+unfolding last_bytes blocks_before
+length-last_bytes message = length-last 16 (omega arith) message
+
+-- padded it has sixteen bytes
 padded_is_long : (bytes : List ℕ) → length bytes ≤ 16 → length (padded (if length bytes == 16 then Whole else Short) bytes) ≡ 16
 unfolding padded
 padded_is_long bytes few = go (length bytes == 16) refl

@@ -24,8 +24,9 @@ use Rattle.mask_streams.proofs.Plans.{inputs_are, inputs_are_alike, outputs_are}
 use Rattle.mask_macs.specs.ChaskeyRuns.{ahead, block_of, block_step, block_steps, chaskey_plan, end_step, fed_steps, next_steps, start_step}
 use Rattle.mask_macs.specs.Codes.{IsNext, chaskey_code}
 use Rattle.mask_macs.specs.Laws.{PlansSplit}
-use Rattle.mask_macs.proofs.ChaskeyBlocks.{IsLast, block_of-front, block_of-next, blocks_before-last, end_of-alike, end_of-last, last_bytes-last, length-padded_alone, padded-alike}
+use Rattle.mask_macs.proofs.ChaskeyBlocks.{blocks_before-last, end_of-alike, end_of-last, last_bytes-last, length-padded_alone, padded-alike}
 use Rattle.mask_macs.proofs.Messages.{PiecesAreStrong}
+use Rattle.mask_macs.proofs.Pieces.{IsLast, count-more, piece_of-front, piece_of-next}
 use Rattle.mask_macs.proofs.Plans.{alike_both, states_after-append}
 use Rattle.mask_macs.proofs.Rows.{IsNotKey, IsNotState, all_plains, alike_behind, each_once, key_and_state, none_once, state_and_key}
 
@@ -60,20 +61,18 @@ fed_some [] some = absurd (omega arith)
 fed_some (byte ∷ more) some = refl
 
 -- the steps of whole blocks stay those, whatever comes behind
-pub block_steps-front : (front rest : List ℕ) → length front % 16 ≡ 0 →
-    block_steps (front ++ rest) (length front / 16) ≡ block_steps front (length front / 16)
-block_steps-front front rest whole =
-    each-same _ _ (length front / 16) (λ i lt. ap block_step (block_of-front front rest i (omega arith)))
+pub block_steps-front : (front rest : List ℕ) → block_steps (front ++ rest) (length front / 16) ≡ block_steps front (length front / 16)
+block_steps-front front rest =
+    each-same _ _ (length front / 16) (λ i lt. ap block_step (piece_of-front 16 (omega arith) front rest i lt))
 
 -- one block more
 block_steps-more : (front piece : List ℕ) → length front % 16 ≡ 0 → length piece ≡ 16 →
     block_steps (front ++ piece) (length (front ++ piece) / 16)
     ≡ block_steps front (length front / 16) ++ block_step piece ∷ []
 block_steps-more front piece whole size =
-    let count : length (front ++ piece) / 16 ≡ suc (length front / 16) = omega (arith, length-append front piece) in
-    ap (block_steps (front ++ piece)) count
-    ∙ ap₂ (λ (l : List Step) (block : List ℕ). l ++ block_step block ∷ []) (block_steps-front front piece whole)
-    (block_of-next front piece (length front / 16) (omega arith) size)
+    ap (block_steps (front ++ piece)) (count-more 16 (omega arith) front piece whole size)
+    ∙ ap₂ (λ (l : List Step) (block : List ℕ). l ++ block_step block ∷ []) (block_steps-front front piece)
+    (piece_of-next 16 (omega arith) front piece whole size)
 
 splits_on : (front piece : List ℕ) → length front % 16 ≡ 0 → length piece ≡ 16 →
     fed_steps (front ++ piece) ≡ fed_steps front ++ next_steps (length front) piece false
@@ -85,14 +84,14 @@ splits_on (byte ∷ more) piece whole size =
     ∙ ap (λ (l : List Step). fed_steps front ++ (l ++ block_step piece ∷ [])) (sym (none_ahead (length front) (omega arith)))
 
 -- a message that ends in this piece
-plan_is : (front piece : List ℕ) → IsLast front piece →
+plan_is : (front piece : List ℕ) → IsLast 16 front piece →
     chaskey_plan (front ++ piece) ≡ start_step ∷ (block_steps front (length front / 16) ++ end_step (end_of piece) piece ∷ [])
 plan_is front piece is =
-    let steps = ap (block_steps (front ++ piece)) (blocks_before-last front piece is) ∙ block_steps-front front piece is.whole in
+    let steps = ap (block_steps (front ++ piece)) (blocks_before-last front piece is) ∙ block_steps-front front piece in
     let last = ap₂ end_step (end_of-last front piece is) (last_bytes-last front piece is) in
     ap₂ (λ (l : List Step) (s : Step). start_step ∷ (l ++ s ∷ [])) steps last
 
-splits_at_end : (front piece : List ℕ) → IsLast front piece →
+splits_at_end : (front piece : List ℕ) → IsLast 16 front piece →
     chaskey_plan (front ++ piece) ≡ fed_steps front ++ next_steps (length front) piece true
 splits_at_end [] piece is = plan_is [] piece is
 splits_at_end (byte ∷ more) piece is =

@@ -13,9 +13,10 @@ use Rattle.mask_trace.specs.Values.{value_after}
 use Rattle.mask_macs.specs.ChaskeyRuns.{next_steps, state_at}
 use Rattle.mask_macs.specs.Codes.{chaskey_code}
 use Rattle.mask_macs.specs.Laws.{OutputFits, OutputGoesOn, OutputsAreBits}
-use Rattle.mask_macs.proofs.ChaskeyBlocks.{IsLast, blocks_before-last, end_of-last, last_bytes-last}
+use Rattle.mask_macs.proofs.ChaskeyBlocks.{blocks_before-last, end_of-last, last_bytes-last}
 use Rattle.mask_macs.proofs.ChaskeyValues.{absorbed_all, absorbed_all-front, last_value, pieces_go_on, state_behind}
 use Rattle.mask_macs.proofs.Messages.{fed_is_held}
+use Rattle.mask_macs.proofs.Pieces.{IsLast}
 
 -- BYTES
 
@@ -49,14 +50,14 @@ output_fits tag = record {
 }
 
 -- the state before the last piece, and the last block
-state_before-last : (key : ℕ) (front piece : List ℕ) → IsLast front piece →
+state_before-last : (key : ℕ) (front piece : List ℕ) → IsLast 16 front piece →
     state_before_last key (front ++ piece) ≡ absorbed_all front (length front / 16) key
 unfolding state_before_last
 state_before-last key front piece is =
     ap (λ (n : ℕ). absorbed_all (front ++ piece) n key) (blocks_before-last front piece is)
-    ∙ absorbed_all-front front piece key is.whole
+    ∙ absorbed_all-front front piece key
 
-last_block-last : (front piece : List ℕ) → IsLast front piece →
+last_block-last : (front piece : List ℕ) → IsLast 16 front piece →
     last_block (front ++ piece) ≡ number_of (padded (end_of piece) piece)
 unfolding last_block
 last_block-last front piece is =
@@ -65,7 +66,7 @@ last_block-last front piece is =
 pub output_goes_on : (tag : ℕ) → OutputGoesOn (chaskey_code tag)
 unfolding chaskey_mac
 output_goes_on tag key front piece long whole next =
-    let is : IsLast front piece = record { whole = whole; few = next.0; some = next.1 } in
+    let is : IsLast 16 front piece = record { whole = whole; few = next.0; some = next.1 } in
     let k = number_of key in
     let same_key = (fed_is_held (chaskey_code tag) (pieces_go_on tag) key long front whole).1 in
     let state = state_before-last k front piece is ∙ sym (state_behind tag key long front whole) in

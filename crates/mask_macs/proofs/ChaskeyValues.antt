@@ -18,10 +18,10 @@ use Rattle.mask_streams.specs.Streams.{with_key}
 use Rattle.mask_streams.proofs.Values.{values-append}
 use Rattle.mask_macs.specs.ChaskeyRuns.{ahead, block_of, block_step, end_step, fed_steps, next_steps, start_step, state_at}
 use Rattle.mask_macs.specs.Codes.{IsHeldBehind, IsNext, chaskey_code}
-use Rattle.mask_macs.proofs.ChaskeyBlocks.{block_of-front, block_of-next, length-padded_alone}
+use Rattle.mask_macs.proofs.ChaskeyBlocks.{length-padded_alone}
 use Rattle.mask_macs.proofs.ChaskeyPlans.{end_inputs, end_outputs, plans_split, start_outputs, step_inputs, step_outputs}
 use Rattle.mask_macs.proofs.Messages.{PiecesGoOn, fed_is_held}
-use Rattle.mask_macs.proofs.Pieces.{by_pieces}
+use Rattle.mask_macs.proofs.Pieces.{by_pieces, count-more, piece_of-front, piece_of-next}
 use Rattle.mask_macs.proofs.Rows.{key_values, plain_values, state_values}
 
 -- ONE STEP
@@ -186,12 +186,12 @@ abbrev pub absorbed_all : List ℕ → ℕ → ℕ → ℕ
 absorbed_all message n key = in_turn (λ i h. absorbed h (block_at message i)) n key
 
 -- it stays that, whatever comes behind
-pub absorbed_all-front : (front rest : List ℕ) (key : ℕ) → length front % 16 ≡ 0 →
+pub absorbed_all-front : (front rest : List ℕ) (key : ℕ) →
     absorbed_all (front ++ rest) (length front / 16) key ≡ absorbed_all front (length front / 16) key
 unfolding block_at
-absorbed_all-front front rest key whole =
+absorbed_all-front front rest key =
     in_turn-same _ _ (length front / 16) key
-    (λ i h lt. ap (λ (block : List ℕ). absorbed h (number_of block)) (block_of-front front rest i (omega arith)))
+    (λ i h lt. ap (λ (block : List ℕ). absorbed h (number_of block)) (piece_of-front 16 (omega arith) front rest i lt))
 
 -- one block more
 absorbed_all-more : (front piece : List ℕ) (key : ℕ) → length front % 16 ≡ 0 → length piece ≡ 16 →
@@ -199,10 +199,9 @@ absorbed_all-more : (front piece : List ℕ) (key : ℕ) → length front % 16 �
     ≡ absorbed (absorbed_all front (length front / 16) key) (number_of piece)
 unfolding in_turn block_at
 absorbed_all-more front piece key whole size =
-    let count : length (front ++ piece) / 16 ≡ suc (length front / 16) = omega (arith, length-append front piece) in
-    ap (λ (n : ℕ). absorbed_all (front ++ piece) n key) count
-    ∙ ap₂ (λ (h : ℕ) (block : List ℕ). absorbed h (number_of block)) (absorbed_all-front front piece key whole)
-    (block_of-next front piece (length front / 16) (omega arith) size)
+    ap (λ (n : ℕ). absorbed_all (front ++ piece) n key) (count-more 16 (omega arith) front piece whole size)
+    ∙ ap₂ (λ (h : ℕ) (block : List ℕ). absorbed h (number_of block)) (absorbed_all-front front piece key)
+    (piece_of-next 16 (omega arith) front piece whole size)
 
 module _ (tag : ℕ) (key : List ℕ) (long : length key ≡ 16) where
   abbrev behind : List ℕ → Registers Bool

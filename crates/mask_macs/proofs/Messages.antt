@@ -65,10 +65,10 @@ module _ (code : Code) (is : PiecesAreStrong code) where
   plan_is_strong message =
       let parts = cut code.piece_bytes message is.some in
       let n = length parts.front in
-      let fed = fed_is_strong parts.front parts.whole in
-      let next : IsNext code n parts.piece true = (parts.few, parts.some) in
+      let fed = fed_is_strong parts.front parts.last.whole in
+      let next : IsNext code n parts.piece true = (parts.last.few, parts.last.some) in
       subst (λ (m : List ℕ). IsStrongPlan width 0 (code.plan m)) parts.both
-      (subst (IsStrongPlan width 0) (sym (is.split.ends parts.front parts.piece parts.whole next))
+      (subst (IsStrongPlan width 0) (sym (is.split.ends parts.front parts.piece parts.last.whole next))
       (IsStrongPlan-append width 0 (code.fed parts.front) (code.next n parts.piece true) fed.0
       (is.strong n (states_after 0 (code.fed parts.front)) parts.piece true next fed.1)))
 
@@ -116,10 +116,10 @@ module _ (code : Code) (is : PiecesAreStrong code) where
       subst (λ (m : List ℕ). AreAlike (code.plan m) (code.plan other)) parts.both
       (in_parts front piece other (λ (m : List ℕ). AreAlike (code.plan (front ++ piece)) (code.plan m)) (sym (ap length parts.both ∙ e))
       (λ first rest e' e''.
-      alike_both _ _ (code.fed front) (code.fed first) _ _ (is.split.ends front piece parts.whole (parts.few, parts.some))
-      (is.split.ends first rest (subst (ArePieces code) (sym e') parts.whole)
-      (subst (λ (n : ℕ). n ≤ code.piece_bytes) (sym e'') parts.few, λ some. let more = parts.some (omega arith) in omega arith))
-      (fed_are_alike front parts.whole first e') (next_alike front piece first rest true e' e'')))
+      alike_both _ _ (code.fed front) (code.fed first) _ _ (is.split.ends front piece parts.last.whole (parts.last.few, parts.last.some))
+      (is.split.ends first rest (subst (ArePieces code) (sym e') parts.last.whole)
+      (subst (λ (n : ℕ). n ≤ code.piece_bytes) (sym e'') parts.last.few, λ some. let more = parts.last.some (omega arith) in omega arith))
+      (fed_are_alike front parts.last.whole first e') (next_alike front piece first rest true e' e'')))
 
   pub plans_are_strong : PlansAreStrong code
   plans_are_strong = record {

@@ -1,9 +1,13 @@
 -- A message authentication code as it is run: piece by piece, behind each of which but the last more of the message comes.
-use Rattle.std.specs.Prelude.{◌≡◌, ℕ, ◌+◌, ◌*◌, ◌%◌, ◌<◌, ◌≤◌, Bool, true, false, List, length}
+use Rattle.std.specs.Prelude.{◌≡◌, ℕ, ◌+◌, ◌-◌, ◌*◌, ◌%◌, ◌<◌, ◌≤◌, Bool, true, false, List, length}
+use Rattle.mask_tasks.specs.declared.sizes.KeySize.{KeySize}
+use Rattle.mask_tasks.specs.Sizes.{present_bytes}
 use Rattle.mask_trace.specs.Steps.{Registers, Step}
 use Rattle.mask_chaskey.specs.Chaskey.{chaskey_mac}
+use Rattle.mask_lightmac.specs.LightMac.{lightmac}
 use Rattle.mask_streams.specs.Streams.{with_key}
 use Rattle.mask_macs.specs.ChaskeyRuns as chaskey
+use Rattle.mask_macs.specs.LightMacRuns as light
 
 -- The tag of a message under a key, and the run that computes it. What is behind n bytes, which are whole pieces, depends on
 -- what the run holds there.
@@ -43,6 +47,23 @@ chaskey_code tag_bytes = record {
   output = chaskey.next_output tag_bytes;
   place = λ k. 8 * k;
   drawn = chaskey.chaskey_bits;
+}
+
+-- LightMAC over PRESENT, with a counter and a tag of so many bytes
+abbrev pub lightmac_code : KeySize → ℕ → ℕ → Code
+lightmac_code size s tag_bytes = record {
+  key_bytes = present_bytes size + present_bytes size;
+  piece_bytes = 8 - s;
+  tag_bytes = tag_bytes;
+  state_bits = 64;
+  tag = lightmac size s tag_bytes;
+  first_held = light.with_key size;
+  plan = light.lightmac_plan size s;
+  fed = light.fed_steps size s;
+  next = light.next_steps size s;
+  output = light.next_output size tag_bytes;
+  place = λ k. 8 * (7 - k);
+  drawn = light.lightmac_bits size s;
 }
 
 -- PIECES
