@@ -10,9 +10,7 @@ use Rattle.mask_chaskey.specs.declared.doubling.End.TheVariants.{Whole, Short}
 use Rattle.mask_chaskey.specs.Chaskey.{blocks_before, end_of, last_bytes, padded}
 use Rattle.mask_chaskey.specs.NamedChaskey.{named_end, named_step, size_end, size_step}
 use Rattle.mask_chaskey.proofs.Concluding.{IsCipherCircuit-named_step, size-named_end}
-use Rattle.mask_refresh.specs.Refreshing.{refreshing, refreshing_size}
-use Rattle.mask_refresh.proofs.Making.{size-refreshing}
-use Rattle.mask_trace.specs.Steps.{Plain, Key, State, bits_of, plain_bits, stretch}
+use Rattle.mask_trace.specs.Steps.{AsState, Plain, Key, State, bits_of, plain_bits, stretch}
 use Rattle.mask_trace.proofs.Inputs.{inputs_stand_in_parts}
 use Rattle.mask_trace.proofs.Traces.{bits_of-cons, traces_split}
 use Rattle.mask_streams.specs.Streams.{gate_bits}
@@ -22,16 +20,11 @@ use Rattle.mask_macs.specs.Codes.{chaskey_code}
 use Rattle.mask_macs.specs.Laws.{RunBits}
 use Rattle.mask_macs.proofs.ChaskeyBlocks.{length-padded}
 use Rattle.mask_macs.proofs.Pieces.{length-piece_of}
+use Rattle.mask_macs.proofs.Refreshes.{stretch-refresh}
 
 -- the bits that a block draws, be it the last or not
 abbrev block_bits : ℕ → ℕ
 block_bits d = 128 * d + 3104 * gate_bits d
-
-stretch-start : (d : ℕ) → stretch (suc d) start_step ≡ 128 * gate_bits d
-stretch-start d =
-    ap₂ (λ (bs : List Bool) (n : ℕ). d * length bs + n) (inputs_stand_in_parts.bits_of_key 128)
-    (draws-gates (refreshing 128) (refreshing_size 128) d 128 (size-refreshing 128) refl)
-    ∙ omega arith
 
 -- sixteen bytes of message, and so many gates
 stretch_of_block : (d : ℕ) (bytes : List ℕ) (bits : List Bool) (drawn : ℕ) → bits ≡ low bytes → length bytes ≡ 16 →
@@ -85,7 +78,7 @@ run_bits tag d message =
     let rest = block_steps message m ++ end ∷ [] in
     let sum : 128 * gate_bits d + (m * b + (b + 0)) ≡ 128 * gate_bits d + suc m * b = omega arith in
     bits_of-cons (suc d) start_step rest
-    ∙ ap₂ (λ (x y : ℕ). x + y) (stretch-start d)
+    ∙ ap₂ (λ (x y : ℕ). x + y) (stretch-refresh d 128 AsState)
     (traces_split.bits (suc d) (block_steps message m) (end ∷ [])
     ∙ ap₂ (λ (x y : ℕ). x + y) (bits-blocks d message m (omega arith))
     (bits_of-cons (suc d) end [] ∙ ap (λ (x : ℕ). x + 0) (stretch-end d (end_of message) (last_bytes message) (length-padded message))))

@@ -9,14 +9,12 @@ use Rattle.mask_circuit.specs.Wires.{each}
 use Rattle.mask_circuit.proofs.Places.{length-each}
 use Rattle.mask_laws.proofs.CircuitNames.{All-each}
 use Rattle.mask_shares.proofs.Lists.{each-same}
-use Rattle.mask_parts.specs.CipherCircuits.{Size, size_of}
 use Rattle.mask_chaskey.specs.declared.doubling.End.{End}
 use Rattle.mask_chaskey.specs.declared.doubling.End.TheVariants.{Whole, Short}
 use Rattle.mask_chaskey.specs.Chaskey.{blocks_before, end_of, last_bytes, padded}
 use Rattle.mask_chaskey.specs.NamedChaskey.{end_of_bits, named_end, named_step, size_end, size_step, step_of_bits}
 use Rattle.mask_chaskey.proofs.Concluding.{IsCipherCircuit-named_end, IsCipherCircuit-named_step}
 use Rattle.mask_refresh.specs.Refreshing.{refreshing}
-use Rattle.mask_refresh.proofs.Making.{IsWellFormed-refreshing, inputs-refreshing, size-refreshing, strong-refreshing}
 use Rattle.mask_trace.specs.Steps.{InputBit, Plain, Key, State, AsState, Step, IsNotHeld, IsThere, IsStrongStep, IsStrongPlan}
 use Rattle.mask_trace.specs.Privacy.{AreAlike, blank, without_message}
 use Rattle.mask_trace.specs.Values.{states_after}
@@ -28,13 +26,10 @@ use Rattle.mask_macs.proofs.ChaskeyBlocks.{blocks_before-last, end_of-alike, end
 use Rattle.mask_macs.proofs.Messages.{PiecesAreStrong}
 use Rattle.mask_macs.proofs.Pieces.{IsLast, count-more, piece_of-front, piece_of-next}
 use Rattle.mask_macs.proofs.Plans.{alike_both, states_after-append}
-use Rattle.mask_macs.proofs.Rows.{IsNotKey, IsNotState, all_plains, alike_behind, each_once, key_and_state, none_once, state_and_key}
+use Rattle.mask_macs.proofs.Refreshes.{outputs-refreshing, refresh_is_strong}
+use Rattle.mask_macs.proofs.Rows.{IsNotKey, IsNotState, all_plains, alike_rows, each_once, key_and_state, none_once, state_and_key}
 
 -- SIZES
-
-pub start_outputs : length (refreshing 128).outputs ≡ 128
-unfolding size_of
-start_outputs = ap (λ (s : Size). s.outputs) (size-refreshing 128)
 
 pub step_inputs : named_step.inputs ≡ 256
 step_inputs = inputs_are named_step size_step step_of_bits IsCipherCircuit-named_step
@@ -109,14 +104,7 @@ plans_split tag = record {
 -- STRONG STEPS
 
 start_is_strong : (s : ℕ) → IsStrongStep 128 s start_step
-start_is_strong s = record {
-  formed = IsWellFormed-refreshing 128;
-  strong = strong-refreshing 128;
-  count = length-each Key 128 ∙ sym (inputs-refreshing 128);
-  there = All-each (IsThere 128 s) Key 128 (λ i lt. lt);
-  once = each_once Key (λ i j e. cc) 128;
-  fit = tt;
-}
+start_is_strong s = refresh_is_strong 128 s 128 AsState (omega arith) tt
 
 block_is_strong : (s : ℕ) (block : List ℕ) → 128 ≤ s → length block ≡ 16 → IsStrongStep 128 s (block_step block)
 block_is_strong s block enough size =
@@ -165,7 +153,7 @@ next_is_strong : (n s : ℕ) (step : Step) → (0 < n → 128 ≤ s) → ((s : �
 next_is_strong n s step there strong = go (n == 0) refl
   where
     go : (none : Bool) → (n == 0) ≡ none → IsStrongPlan 128 s (cond none (start_step ∷ []) [] ++ step ∷ [])
-    go true first = (start_is_strong s, (strong (length (refreshing 128).outputs) (omega (arith, start_outputs)), tt))
+    go true first = (start_is_strong s, (strong (length (refreshing 128).outputs) (omega (arith, outputs-refreshing 128)), tt))
     go false later = let ne : n ≡ 0 → ⊥ = eqb-false n 0 later in (strong s (there (omega arith)), tt)
 
 pieces_are_strong : (tag n s : ℕ) (piece : List ℕ) (last : Bool) → IsNext (chaskey_code tag) n piece last → (0 < n → 128 ≤ s) →
@@ -189,7 +177,8 @@ end_inputs_alike : (xs ys : List Bool) → length xs ≡ length ys →
     map without_message (each State 128 ++ (each Key 128 ++ map Plain xs))
     ≡ map without_message (each State 128 ++ (each Key 128 ++ map Plain ys))
 end_inputs_alike xs ys e =
-    alike_behind (each State 128) (each Key 128 ++ map Plain xs) (each Key 128 ++ map Plain ys) (inputs_are_alike (each Key 128) xs ys e)
+    alike_rows (each State 128) (each State 128) (each Key 128 ++ map Plain xs) (each Key 128 ++ map Plain ys) refl
+    (inputs_are_alike (each Key 128) xs ys e)
 
 -- bytes as many as others have as many bits
 as_many_bits : (xs ys : List ℕ) → length xs ≡ length ys → length (low xs) ≡ length (low ys)

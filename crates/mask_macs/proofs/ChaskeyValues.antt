@@ -1,7 +1,7 @@
 -- What the steps of Chaskey compute: the state of the code as a number, and the registers behind them.
 use Rattle.std.proofs.Common.{◌≡◌, ℕ, zero, suc, ◌+◌, ◌*◌, ◌/◌, ◌%◌, ◌<◌, ◌≤◌, ◌==◌, Bool, true, false, cond, List, [], ◌∷◌, ◌++◌, map, length, take, drop, drop-drop, refl, ap, ap₂, sym, ◌∙◌, arith, length-append, ne_eqb}
 use Rattle.std.proofs.lemmas.Bool.{eqb-false}
-use Rattle.std.proofs.lemmas.List.{drop_at, length-map, map-append, take_at}
+use Rattle.std.proofs.lemmas.List.{drop_at, length-map, take_all, take_at}
 use Rattle.mask_bits.specs.Reading.{low, number}
 use Rattle.mask_bits.proofs.Bytes.{length-low}
 use Rattle.mask_circuit.specs.Value.{plain, value_at}
@@ -10,25 +10,24 @@ use Rattle.mask_chaskey.specs.declared.doubling.End.{End}
 use Rattle.mask_chaskey.specs.Chaskey.{absorbed, block_at, end_of, finished, in_turn, number_of, padded}
 use Rattle.mask_chaskey.specs.NamedChaskey.{end_of_bits, named_end, named_step, step_of_bits}
 use Rattle.mask_chaskey.proofs.Concluding.{IsCipherCircuit-named_end, IsCipherCircuit-named_step, number-end_of_bits, number-step_of_bits}
-use Rattle.mask_refresh.specs.Refreshing.{refreshing}
-use Rattle.mask_refresh.proofs.Making.{plain-refreshing}
 use Rattle.mask_trace.specs.Steps.{Plain, Key, State, Registers, Step, AsState}
-use Rattle.mask_trace.specs.Values.{input_value, step_value, value_after}
+use Rattle.mask_trace.specs.Values.{step_value, value_after}
 use Rattle.mask_streams.specs.Streams.{with_key}
 use Rattle.mask_streams.proofs.Values.{values-append}
 use Rattle.mask_macs.specs.ChaskeyRuns.{ahead, block_of, block_step, end_step, fed_steps, next_steps, start_step, state_at}
 use Rattle.mask_macs.specs.Codes.{IsHeldBehind, IsNext, chaskey_code}
 use Rattle.mask_macs.proofs.ChaskeyBlocks.{length-padded_alone}
-use Rattle.mask_macs.proofs.ChaskeyPlans.{end_inputs, end_outputs, plans_split, start_outputs, step_inputs, step_outputs}
+use Rattle.mask_macs.proofs.ChaskeyPlans.{end_inputs, end_outputs, plans_split, step_inputs, step_outputs}
 use Rattle.mask_macs.proofs.Messages.{PiecesGoOn, fed_is_held}
 use Rattle.mask_macs.proofs.Pieces.{by_pieces, count-more, piece_of-front, piece_of-next}
-use Rattle.mask_macs.proofs.Rows.{key_values, plain_values, state_values}
+use Rattle.mask_macs.proofs.Refreshes.{refresh_value}
+use Rattle.mask_macs.proofs.Rows.{key_values, plain_values, row_values, state_values}
 
 -- ONE STEP
 
 -- the start hands on the key
 start_value : (held : Registers Bool) → length held.key ≡ 128 → step_value held start_step ≡ held.key
-start_value held long = ap (plain (refreshing 128)) (key_values held 128 long) ∙ plain-refreshing 128 held.key long
+start_value held long = refresh_value held 128 AsState (omega arith) ∙ take_all 128 held.key (omega arith)
 
 -- a block that isn't the last is absorbed
 pub block_value : (held : Registers Bool) (block : List ℕ) → length held.state ≡ 128 → length block ≡ 16 →
@@ -37,9 +36,7 @@ block_value held block long size =
     let message = low block in
     let all : length (held.state ++ message) ≡ 256
     = length-append held.state message ∙ (let e = length-low block in omega arith) in
-    let inputs : map (input_value held) (each State 128 ++ map Plain message) ≡ held.state ++ message
-    = map-append (input_value held) (each State 128) (map Plain message)
-    ∙ ap₂ (λ (l r : List Bool). l ++ r) (state_values held 128 long) (plain_values held message) in
+    let inputs = row_values held (each State 128) (map Plain message) _ _ (state_values held 128 long) (plain_values held message) in
     ap number
     (ap (plain named_step) inputs ∙ IsCipherCircuit-named_step.computes (held.state ++ message) (all ∙ sym step_inputs))
     ∙ number-step_of_bits (held.state ++ message) all
@@ -58,11 +55,8 @@ end_value held end bytes key_long long size =
     let all : length x ≡ 384
     = length-append held.state others
     ∙ (let e = length-append held.key message in let e' = length-low (padded end bytes) in omega arith) in
-    let inputs : map (input_value held) (each State 128 ++ (each Key 128 ++ map Plain message)) ≡ x
-    = map-append (input_value held) (each State 128) (each Key 128 ++ map Plain message)
-    ∙ ap₂ (λ (l r : List Bool). l ++ r) (state_values held 128 long)
-    (map-append (input_value held) (each Key 128) (map Plain message)
-    ∙ ap₂ (λ (l r : List Bool). l ++ r) (key_values held 128 key_long) (plain_values held message)) in
+    let inputs = row_values held (each State 128) (each Key 128 ++ map Plain message) _ _ (state_values held 128 long)
+    (row_values held (each Key 128) (map Plain message) _ _ (key_values held 128 key_long) (plain_values held message)) in
     let behind : drop 128 x ≡ others = drop_at held.state others 128 long in
     let last : drop 256 x ≡ message
     = sym (drop-drop 128 128 x) ∙ ap (drop 128) behind ∙ drop_at held.key message 128 key_long in

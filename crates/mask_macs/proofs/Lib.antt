@@ -4,7 +4,10 @@ mod ChaskeyExamples
 pub mod ChaskeyPlans
 pub mod ChaskeyTags
 pub mod ChaskeyValues
+pub mod LightMacPlans
+pub mod LightMacRows
 pub mod Messages
 pub mod Pieces
 pub mod Plans
+pub mod Refreshes
 pub mod Rows

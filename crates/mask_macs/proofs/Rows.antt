@@ -1,16 +1,17 @@
 -- Inputs of a step that stand in rows: bits of the key, of the state, and of the message.
-use Rattle.std.proofs.Common.{◌≡◌, ℕ, ◌+◌, ◌-◌, ◌<◌, ◌≤◌, Bool, false, List, [], ◌++◌, map, length, get_or, All, ◌⊎◌, inl, inr, refl, ap, sym, subst, ◌∙◌, arith, length-append}
+use Rattle.std.proofs.Common.{◌≡◌, ℕ, ◌+◌, ◌-◌, ◌<◌, ◌≤◌, Bool, false, List, ◌++◌, map, length, take, drop, get_or, All, ◌⊎◌, inl, inr, refl, ap, ap₂, sym, subst, ◌∙◌, arith, length-append, length-drop}
 use Rattle.std.proofs.lemmas.Bool.{cases_lt}
-use Rattle.std.proofs.lemmas.List.{get_or_append_left, get_or-append_right, map-append, map-id}
+use Rattle.std.proofs.lemmas.List.{get_or-drop, get_or_append_left, get_or-append_right, map-append, map-id, take_all}
 use Rattle.std.proofs.lemmas.List.Elements.{All-map}
 use Rattle.std.proofs.lemmas.Simd.{map-map}
 use Rattle.mask_circuit.specs.Wires.{each}
 use Rattle.mask_circuit.proofs.Places.{length-each}
 use Rattle.mask_laws.proofs.CircuitNames.{All-each}
-use Rattle.mask_shares.proofs.Lists.{each-get_or, get_or-each, map-each}
+use Rattle.mask_shares.proofs.Lists.{each-get_or, each-same, get_or-each, map-each}
 use Rattle.mask_trace.specs.Steps.{InputBit, Public, Plain, Key, State, Registers, IsNotHeld, IsThere}
 use Rattle.mask_trace.specs.Privacy.{without_message}
 use Rattle.mask_trace.specs.Values.{input_value}
+use Rattle.mask_streams.proofs.Values.{each-take}
 
 -- NO BIT IS TAKEN TWICE
 
@@ -91,33 +92,50 @@ key_and_state = once_both IsNotState IsNotKey neither_state_nor_key
 
 -- WHAT THEY ARE
 
--- a row of message bits is of every kind that holds of a message bit, and so of the other rows
+-- a row of message bits, or of public ones, is of every kind that such a bit is of
 pub all_plains : (P : InputBit → Type 0) → ((b : Bool) → P (Plain b)) → (bs : List Bool) → All P (map Plain bs)
 all_plains P each_is bs = All-map P Plain bs (λ i d lt. each_is _)
 
--- WHAT THEY ARE WITHOUT THE MESSAGE
+pub all_publics : (P : InputBit → Type 0) → ((b : Bool) → P (Public b)) → (bs : List Bool) → All P (map Public bs)
+all_publics P each_is bs = All-map P Public bs (λ i d lt. each_is _)
 
-pub alike_behind : (front is js : List InputBit) → map without_message is ≡ map without_message js →
-    map without_message (front ++ is) ≡ map without_message (front ++ js)
-alike_behind front is js e =
-    map-append without_message front is
-    ∙ ap (λ (l : List InputBit). map without_message front ++ l) e
-    ∙ sym (map-append without_message front js)
+-- rows that are the same without the message
+pub alike_rows : (is is' js js' : List InputBit) → map without_message is ≡ map without_message is' →
+    map without_message js ≡ map without_message js' → map without_message (is ++ js) ≡ map without_message (is' ++ js')
+alike_rows is is' js js' e e' =
+    map-append without_message is js
+    ∙ ap₂ (λ (l r : List InputBit). l ++ r) e e'
+    ∙ sym (map-append without_message is' js')
 
 -- THEIR VALUES
 
 module _ (held : Registers Bool) where
+  pub first_key_values : (n : ℕ) → n ≤ length held.key → map (input_value held) (each Key n) ≡ take n held.key
+  first_key_values n within = map-each (input_value held) Key n ∙ each-take held.key n false within
+
   pub key_values : (n : ℕ) → length held.key ≡ n → map (input_value held) (each Key n) ≡ held.key
-  key_values n long =
-      map-each (input_value held) Key n
-      ∙ ap (each (λ i. get_or held.key i false)) (sym long)
-      ∙ each-get_or held.key false
+  key_values n long = first_key_values n (omega arith) ∙ take_all n held.key (omega arith)
+
+  -- those of the key behind its first m bits
+  pub last_key_values : (m n : ℕ) → length held.key ≡ m + n → map (input_value held) (each (λ j. Key (m + j)) n) ≡ drop m held.key
+  last_key_values m n long =
+      let rest : length (drop m held.key) ≡ n = omega (arith, length-drop m held.key) in
+      map-each (input_value held) (λ j. Key (m + j)) n
+      ∙ each-same _ _ n (λ j lt. sym (get_or-drop m held.key j false))
+      ∙ ap (each (λ j. get_or (drop m held.key) j false)) (sym rest)
+      ∙ each-get_or (drop m held.key) false
 
   pub state_values : (n : ℕ) → length held.state ≡ n → map (input_value held) (each State n) ≡ held.state
   state_values n long =
-      map-each (input_value held) State n
-      ∙ ap (each (λ i. get_or held.state i false)) (sym long)
-      ∙ each-get_or held.state false
+      map-each (input_value held) State n ∙ each-take held.state n false (omega arith) ∙ take_all n held.state (omega arith)
 
   pub plain_values : (bs : List Bool) → map (input_value held) (map Plain bs) ≡ bs
   plain_values bs = map-map (input_value held) Plain bs ∙ map-id bs
+
+  pub public_values : (bs : List Bool) → map (input_value held) (map Public bs) ≡ bs
+  public_values bs = map-map (input_value held) Public bs ∙ map-id bs
+
+  -- rows one behind another
+  pub row_values : (is js : List InputBit) (xs ys : List Bool) → map (input_value held) is ≡ xs → map (input_value held) js ≡ ys →
+      map (input_value held) (is ++ js) ≡ xs ++ ys
+  row_values is js xs ys e e' = map-append (input_value held) is js ∙ ap₂ (λ (l r : List Bool). l ++ r) e e'

@@ -49,6 +49,10 @@ chaskey_code tag_bytes = record {
   drawn = chaskey.chaskey_bits;
 }
 
+-- A counter has a byte or more, and leaves one or more to the piece: those of the standard have 1, 2 or 4.
+abbrev pub IsCounterLength : ℕ → Type 0
+IsCounterLength s = (0 < s) × (s < 8)
+
 -- LightMAC over PRESENT, with a counter and a tag of so many bytes
 abbrev pub lightmac_code : KeySize → ℕ → ℕ → Code
 lightmac_code size s tag_bytes = record {
