@@ -4,8 +4,12 @@ mod ChaskeyExamples
 pub mod ChaskeyPlans
 pub mod ChaskeyTags
 pub mod ChaskeyValues
+pub mod LightMacBits
+mod LightMacExamples
 pub mod LightMacPlans
 pub mod LightMacRows
+pub mod LightMacTags
+pub mod LightMacValues
 pub mod Messages
 pub mod Pieces
 pub mod Plans

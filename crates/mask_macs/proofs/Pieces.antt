@@ -39,6 +39,14 @@ module _ (b : ℕ) (some : 0 < b) where
       go (inl before) = one_less (omega (arith, length-append front piece, is.whole, is.some before))
       go (inr none) = one_less (omega (arith, length-append front piece, is.whole))
 
+  -- which are no more than there are with all their bytes
+  pub count-within : (n : ℕ) → (n - 1) / b ≤ n / b
+  count-within n = go (cases_lt (n / b) ((n - 1) / b))
+    where
+      go : (n / b < (n - 1) / b) ⊎ ((n - 1) / b ≤ n / b) → (n - 1) / b ≤ n / b
+      go (inl more) = let fits = row_fits (n / b) b ((n - 1) / b) b more (omega arith) in absurd (omega arith)
+      go (inr within) = within
+
   -- PIECES
 
   -- a piece with all its bytes

@@ -1,5 +1,9 @@
-use Rattle.mask_macs.proofs.ChaskeyTags.{output_fits}
+use Rattle.mask_macs.proofs.ChaskeyTags as chaskey
+use Rattle.mask_macs.proofs.LightMacTags as light
 use Rattle.mask_macs.proofs.laws.output_fits.Goals as goal
 
 pub returns : goal.returns
-returns c = record { chaskey = output_fits }
+returns c = record {
+  chaskey = chaskey.output_fits;
+  lightmac = light.output_fits;
+}
