@@ -7,6 +7,7 @@ use Rattle.mask_bits.specs.Reading.{high}
 use Rattle.mask_circuit.specs.Wires.{each, joined}
 use Rattle.mask_circuit.proofs.Places.{length-each}
 use Rattle.mask_laws.proofs.CircuitNames.{All-each}
+use Rattle.mask_gadget.proofs.Made.{joined-same}
 use Rattle.mask_tasks.specs.declared.sizes.KeySize.{KeySize}
 use Rattle.mask_tasks.specs.declared.sizes.KeySize.TheVariants.{K80, K128}
 use Rattle.mask_tasks.specs.Sizes.{present_bytes}
@@ -24,7 +25,7 @@ use Rattle.mask_macs.specs.LightMacRuns.{ahead, counted_bytes, end_step, fed_ste
 use Rattle.mask_macs.proofs.LightMacRows.{counted_is_long, length-counted, length-padded, length-value_bits, padded_is_long, value_is_not_key, value_once, value_there}
 use Rattle.mask_macs.proofs.Messages.{PiecesAreStrong}
 use Rattle.mask_macs.proofs.Pieces.{IsLast, count-last, count-more, last-is, piece_of-front, piece_of-next}
-use Rattle.mask_macs.proofs.Plans.{alike_both, joined-same, states_after-append}
+use Rattle.mask_macs.proofs.Plans.{alike_both, states_after-append}
 use Rattle.mask_macs.proofs.Refreshes.{outputs-refreshing, refresh_is_strong}
 use Rattle.mask_macs.proofs.Rows.{IsNotKey, IsNotState, all_plains, alike_rows, each_once, key_and_state, none_once, state_and_key}
 

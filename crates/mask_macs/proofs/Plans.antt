@@ -1,7 +1,6 @@
 -- Steps one after another: strong, alike, and how long the state is behind them.
-use Rattle.std.proofs.Common.{◌≡◌, ℕ, zero, suc, ◌<◌, List, [], ◌∷◌, ◌++◌, map, refl, ap, ap₂, sym, ◌∙◌, arith}
+use Rattle.std.proofs.Common.{◌≡◌, ℕ, List, [], ◌∷◌, ◌++◌, map, refl, ap, ap₂, sym, ◌∙◌}
 use Rattle.std.proofs.lemmas.List.{map-append}
-use Rattle.mask_circuit.specs.Wires.{joined}
 use Rattle.mask_trace.specs.Steps.{Step, IsStrongPlan, state_after}
 use Rattle.mask_trace.specs.Privacy.{AreAlike, blank}
 use Rattle.mask_trace.specs.Values.{states_after}
@@ -24,9 +23,3 @@ alike_both all all' ss ss' ts ts' is is' front back =
     ∙ map-append blank ss ts
     ∙ ap₂ (λ (l r : List Step). l ++ r) front back
     ∙ sym (ap (map blank) is' ∙ map-append blank ss' ts')
-
--- lists that are the same one by one are so end to end
-pub joined-same : {A : Type 0} (f g : ℕ → List A) (n : ℕ) → ((i : ℕ) → i < n → f i ≡ g i) → joined f n ≡ joined g n
-joined-same f g zero same = refl
-joined-same f g (suc n) same =
-    ap₂ (λ (l r : List _). l ++ r) (joined-same f g n (λ i lt. same i (omega arith))) (same n (omega arith))
