@@ -1,10 +1,9 @@
 -- How many bits of the tape a run of Chaskey takes.
-use Rattle.std.proofs.Common.{◌≡◌, ℕ, zero, suc, ◌+◌, ◌-◌, ◌*◌, ◌/◌, ◌≤◌, Bool, List, [], ◌∷◌, ◌++◌, map, length, refl, ap, ap₂, sym, ◌∙◌, arith}
+use Rattle.std.proofs.Common.{◌≡◌, ℕ, zero, suc, ◌+◌, ◌-◌, ◌*◌, ◌/◌, ◌≤◌, Bool, List, [], ◌∷◌, ◌++◌, map, length, refl, ap, ap₂, ◌∙◌, arith}
 use Rattle.mask_bits.specs.Reading.{low}
 use Rattle.mask_bits.proofs.Bytes.{length-low}
 use Rattle.mask_circuit.specs.Wires.{each}
 use Rattle.mask_circuit.specs.Expansion.{draws}
-use Rattle.mask_parts.specs.CipherCircuits.{size_of}
 use Rattle.mask_chaskey.specs.declared.doubling.End.{End}
 use Rattle.mask_chaskey.specs.declared.doubling.End.TheVariants.{Whole, Short}
 use Rattle.mask_chaskey.specs.Chaskey.{blocks_before, end_of, last_bytes, padded}
@@ -15,7 +14,7 @@ use Rattle.mask_trace.proofs.Inputs.{inputs_stand_in_parts}
 use Rattle.mask_trace.proofs.Traces.{bits_of-cons, traces_split}
 use Rattle.mask_streams.specs.Streams.{gate_bits}
 use Rattle.mask_streams.proofs.TapeBits.{draws-gates, plain_bits-behind}
-use Rattle.mask_macs.specs.ChaskeyRuns.{block_of, block_step, block_steps, chaskey_bits, chaskey_plan, end_step, start_step}
+use Rattle.mask_macs.specs.ChaskeyRuns.{block_of, block_step, block_steps, chaskey_bits, end_step, start_step}
 use Rattle.mask_macs.specs.Codes.{chaskey_code}
 use Rattle.mask_macs.specs.Laws.{RunBits}
 use Rattle.mask_macs.proofs.ChaskeyBlocks.{length-padded}

@@ -1,9 +1,9 @@
 -- A run of Chaskey at worked examples, computed.
-use Rattle.std.specs.Prelude.{◌≡◌, ℕ, Bool, true, false, List, [], ◌∷◌, ◌++◌, length, replicate, refl}
+use Rattle.std.specs.Prelude.{◌≡◌, Bool, true, [], ◌∷◌, replicate, refl}
 use Rattle.std.specs.List.{range_with_len}
-use Rattle.mask_bits.specs.Reading.{low, lowest}
+use Rattle.mask_bits.specs.Reading.{low}
 use Rattle.mask_chaskey.specs.declared.doubling.End.TheVariants.{Whole, Short}
-use Rattle.mask_chaskey.specs.Chaskey.{absorbed, blocks_before, bytes_of, doubled, end_of, finished, in_turn, joined, last_bytes, last_mask, mixed, padded, permutation, permuted, round, turned, words_of}
+use Rattle.mask_chaskey.specs.Chaskey.{blocks_before, bytes_of, doubled, end_of, finished, in_turn, joined, last_bytes, last_mask, mixed, padded, permutation, permuted, round, turned, words_of}
 use Rattle.mask_trace.specs.Steps.{Registers}
 use Rattle.mask_macs.specs.ChaskeyRuns.{block_step, chaskey_bits, chaskey_plan, end_step, fed_steps, next_output, next_steps, start_step}
 

@@ -1,5 +1,5 @@
 -- The steps of Chaskey split behind whole blocks, are strong, and depend on the message in its bits alone.
-use Rattle.std.proofs.Common.{◌≡◌, ℕ, suc, ◌+◌, ◌*◌, ◌/◌, ◌%◌, ◌<◌, ◌≤◌, ◌==◌, Bool, true, false, cond, List, [], ◌∷◌, ◌++◌, map, length, All, refl, ap, ap₂, sym, ◌∙◌, arith, length-append, ne_eqb}
+use Rattle.std.proofs.Common.{◌≡◌, ℕ, ◌+◌, ◌*◌, ◌/◌, ◌%◌, ◌<◌, ◌≤◌, ◌==◌, Bool, true, false, cond, List, [], ◌∷◌, ◌++◌, map, length, refl, ap, ap₂, sym, ◌∙◌, arith, length-append, ne_eqb}
 use Rattle.std.proofs.lemmas.Bool.{eqb-false}
 use Rattle.std.proofs.lemmas.List.{length-map}
 use Rattle.std.proofs.lemmas.List.Elements.{All-append}
@@ -11,7 +11,7 @@ use Rattle.mask_laws.proofs.CircuitNames.{All-each}
 use Rattle.mask_shares.proofs.Lists.{each-same}
 use Rattle.mask_chaskey.specs.declared.doubling.End.{End}
 use Rattle.mask_chaskey.specs.declared.doubling.End.TheVariants.{Whole, Short}
-use Rattle.mask_chaskey.specs.Chaskey.{blocks_before, end_of, last_bytes, padded}
+use Rattle.mask_chaskey.specs.Chaskey.{end_of, padded}
 use Rattle.mask_chaskey.specs.NamedChaskey.{end_of_bits, named_end, named_step, size_end, size_step, step_of_bits}
 use Rattle.mask_chaskey.proofs.Concluding.{IsCipherCircuit-named_end, IsCipherCircuit-named_step}
 use Rattle.mask_refresh.specs.Refreshing.{refreshing}
@@ -19,7 +19,7 @@ use Rattle.mask_trace.specs.Steps.{InputBit, Plain, Key, State, AsState, Step, I
 use Rattle.mask_trace.specs.Privacy.{AreAlike, blank, without_message}
 use Rattle.mask_trace.specs.Values.{states_after}
 use Rattle.mask_streams.proofs.Plans.{inputs_are, inputs_are_alike, outputs_are}
-use Rattle.mask_macs.specs.ChaskeyRuns.{ahead, block_of, block_step, block_steps, chaskey_plan, end_step, fed_steps, next_steps, start_step}
+use Rattle.mask_macs.specs.ChaskeyRuns.{ahead, block_step, block_steps, chaskey_plan, end_step, fed_steps, next_steps, start_step}
 use Rattle.mask_macs.specs.Codes.{IsNext, chaskey_code}
 use Rattle.mask_macs.specs.Laws.{PlansSplit}
 use Rattle.mask_macs.proofs.ChaskeyBlocks.{blocks_before-last, end_of-alike, end_of-last, last_bytes-last, length-padded_alone, padded-alike}

@@ -1,16 +1,15 @@
 -- The tag of Chaskey: what the last piece makes of the state that is held, and where its bits stand.
-use Rattle.std.proofs.Common.{◌≡◌, ℕ, zero, suc, ◌+◌, ◌*◌, ◌/◌, ◌%◌, ◌^◌, ◌<◌, ◌≤◌, Bool, true, false, List, [], ◌∷◌, ◌++◌, length, get_or, refl, ap, ap₂, sym, ◌∙◌, arith}
+use Rattle.std.proofs.Common.{◌≡◌, ℕ, zero, suc, ◌+◌, ◌*◌, ◌/◌, ◌%◌, ◌^◌, ◌<◌, Bool, true, false, List, [], ◌++◌, length, get_or, refl, ap, ap₂, sym, ◌∙◌, arith}
 use Rattle.std.proofs.lemmas.List.{append-nil}
 use Rattle.std.proofs.lemmas.List.Elements.{All-cons, All-nil}
-use Rattle.mask_bits.specs.Reading.{AreBytes, bit, low, lowest, number}
+use Rattle.mask_bits.specs.Reading.{AreBytes, bit, lowest, number}
 use Rattle.mask_bits.proofs.Bytes.{low-place}
 use Rattle.mask_bits.proofs.Numbers.{bit-number, get_or-lowest}
 use Rattle.mask_chaskey.specs.declared.doubling.End.{End}
-use Rattle.mask_chaskey.specs.Chaskey.{bytes_of, chaskey_mac, end_of, finished, last_block, last_bytes, number_of, padded, state_before_last}
+use Rattle.mask_chaskey.specs.Chaskey.{bytes_of, chaskey_mac, end_of, finished, last_block, number_of, padded, state_before_last}
 use Rattle.mask_chaskey.proofs.Tags.{low-bytes_of}
-use Rattle.mask_trace.specs.Steps.{Registers}
 use Rattle.mask_trace.specs.Values.{value_after}
-use Rattle.mask_macs.specs.ChaskeyRuns.{next_steps, state_at}
+use Rattle.mask_macs.specs.ChaskeyRuns.{next_steps}
 use Rattle.mask_macs.specs.Codes.{chaskey_code}
 use Rattle.mask_macs.specs.Laws.{OutputFits, OutputGoesOn, OutputsAreBits}
 use Rattle.mask_macs.proofs.ChaskeyBlocks.{blocks_before-last, end_of-last, last_bytes-last}

@@ -1,5 +1,5 @@
 -- What the steps of Chaskey compute: the state of the code as a number, and the registers behind them.
-use Rattle.std.proofs.Common.{◌≡◌, ℕ, zero, suc, ◌+◌, ◌*◌, ◌/◌, ◌%◌, ◌<◌, ◌≤◌, ◌==◌, Bool, true, false, cond, List, [], ◌∷◌, ◌++◌, map, length, take, drop, drop-drop, refl, ap, ap₂, sym, ◌∙◌, arith, length-append, ne_eqb}
+use Rattle.std.proofs.Common.{◌≡◌, ℕ, zero, suc, ◌*◌, ◌/◌, ◌%◌, ◌<◌, ◌≤◌, ◌==◌, Bool, true, false, cond, List, [], ◌∷◌, ◌++◌, map, length, take, drop, drop-drop, refl, ap, ap₂, sym, ◌∙◌, arith, length-append, ne_eqb}
 use Rattle.std.proofs.lemmas.Bool.{eqb-false}
 use Rattle.std.proofs.lemmas.List.{drop_at, length-map, take_all, take_at}
 use Rattle.mask_bits.specs.Reading.{low, number}
@@ -8,13 +8,13 @@ use Rattle.mask_circuit.specs.Value.{plain, value_at}
 use Rattle.mask_circuit.specs.Wires.{each}
 use Rattle.mask_chaskey.specs.declared.doubling.End.{End}
 use Rattle.mask_chaskey.specs.Chaskey.{absorbed, block_at, end_of, finished, in_turn, number_of, padded}
-use Rattle.mask_chaskey.specs.NamedChaskey.{end_of_bits, named_end, named_step, step_of_bits}
+use Rattle.mask_chaskey.specs.NamedChaskey.{named_end, named_step}
 use Rattle.mask_chaskey.proofs.Concluding.{IsCipherCircuit-named_end, IsCipherCircuit-named_step, number-end_of_bits, number-step_of_bits}
 use Rattle.mask_trace.specs.Steps.{Plain, Key, State, Registers, Step, AsState}
 use Rattle.mask_trace.specs.Values.{step_value, value_after}
 use Rattle.mask_streams.specs.Streams.{with_key}
 use Rattle.mask_streams.proofs.Values.{values-append}
-use Rattle.mask_macs.specs.ChaskeyRuns.{ahead, block_of, block_step, end_step, fed_steps, next_steps, start_step, state_at}
+use Rattle.mask_macs.specs.ChaskeyRuns.{ahead, block_step, end_step, fed_steps, next_steps, start_step, state_at}
 use Rattle.mask_macs.specs.Codes.{IsHeldBehind, IsNext, chaskey_code}
 use Rattle.mask_macs.proofs.ChaskeyBlocks.{length-padded_alone}
 use Rattle.mask_macs.proofs.ChaskeyPlans.{end_inputs, end_outputs, plans_split, step_inputs, step_outputs}

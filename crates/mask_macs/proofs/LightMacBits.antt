@@ -1,5 +1,5 @@
 -- How many bits of the tape a run of LightMAC takes.
-use Rattle.std.proofs.Common.{◌≡◌, ℕ, zero, suc, ◌+◌, ◌-◌, ◌*◌, ◌/◌, ◌≤◌, ◌<◌, ◌==◌, Bool, true, false, cond, List, [], ◌∷◌, ◌++◌, map, length, refl, ap, ap₂, sym, ◌∙◌, arith, append-nil, ne_eqb}
+use Rattle.std.proofs.Common.{◌≡◌, ℕ, zero, suc, ◌+◌, ◌-◌, ◌*◌, ◌/◌, ◌≤◌, ◌<◌, ◌==◌, Bool, true, false, cond, List, [], ◌∷◌, ◌++◌, map, length, refl, ap, ap₂, ◌∙◌, arith, append-nil, ne_eqb}
 use Rattle.std.proofs.Math.Nat.{mul-zero}
 use Rattle.mask_bits.specs.Reading.{high}
 use Rattle.mask_circuit.specs.Wires.{each}

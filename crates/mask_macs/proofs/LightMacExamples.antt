@@ -1,11 +1,10 @@
 -- A run of LightMAC at worked examples, computed.
-use Rattle.std.specs.Prelude.{◌≡◌, ℕ, Bool, true, false, List, [], ◌∷◌, ◌++◌, length, replicate, refl}
+use Rattle.std.specs.Prelude.{◌≡◌, true, [], ◌∷◌, length, replicate, refl}
 use Rattle.std.specs.List.{range_with_len}
 use Rattle.mask_tasks.specs.declared.sizes.KeySize.TheVariants.{K80, K128}
 use Rattle.mask_parts.specs.PresentSbox.{sbox}
 use Rattle.mask_present.specs.Present.{block_after, encrypted, permuted, present, register_after, replaced, rotated, round_key, substituted, updated}
 use Rattle.mask_lightmac.specs.LightMac.{bytes_of, finished, last_piece, padded, piece_at, pieces_before}
-use Rattle.mask_trace.specs.Steps.{Registers, Step}
 use Rattle.mask_macs.specs.LightMacRuns.{end_step, fed_steps, lightmac_bits, lightmac_plan, next_output, next_steps, piece_step, refresh_step, with_key}
 
 -- THE STEPS

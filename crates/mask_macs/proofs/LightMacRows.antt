@@ -1,5 +1,5 @@
 -- The inputs of the steps of LightMAC: the block of a counter and a piece, the last piece with its padding, and V.
-use Rattle.std.proofs.Common.{◌≡◌, ℕ, suc, ◌+◌, ◌-◌, ◌*◌, ◌/◌, ◌<◌, ◌≤◌, ◌==◌, Bool, true, false, cond, List, [], ◌∷◌, ◌++◌, map, length, replicate, All, refl, ap, ap₂, sym, ◌∙◌, arith, length-append}
+use Rattle.std.proofs.Common.{◌≡◌, ℕ, suc, ◌+◌, ◌-◌, ◌/◌, ◌<◌, ◌≤◌, ◌==◌, Bool, true, false, cond, List, [], ◌∷◌, map, length, replicate, All, refl, ap, ◌∙◌, arith, length-append}
 use Rattle.std.proofs.lemmas.Bool.{eqb-false}
 use Rattle.std.proofs.lemmas.List.{length-map, length-replicate}
 use Rattle.mask_bits.specs.Reading.{high, number}
@@ -8,7 +8,7 @@ use Rattle.mask_circuit.proofs.Places.{length-each}
 use Rattle.mask_laws.proofs.CircuitNames.{All-each}
 use Rattle.mask_lightmac.specs.LightMac.{bytes_of, padded}
 use Rattle.mask_lightmac.proofs.Tags.{length-bytes_of, length-high}
-use Rattle.mask_trace.specs.Steps.{InputBit, Public, Plain, Key, State, Registers, IsNotHeld, IsThere, plain_bits}
+use Rattle.mask_trace.specs.Steps.{InputBit, Public, State, Registers, IsNotHeld, IsThere, plain_bits}
 use Rattle.mask_trace.specs.Values.{input_value}
 use Rattle.mask_trace.proofs.Inputs.{inputs_stand_in_parts}
 use Rattle.mask_macs.specs.Codes.{IsCounterLength}

@@ -1,5 +1,5 @@
 -- What the steps of LightMAC compute: V as a number, and the registers behind them.
-use Rattle.std.proofs.Common.{◌≡◌, ℕ, zero, suc, ◌+◌, ◌-◌, ◌*◌, ◌/◌, ◌%◌, ◌<◌, ◌≤◌, ◌==◌, Bool, true, false, cond, List, [], ◌∷◌, ◌++◌, map, length, take, drop, drop-drop, refl, ap, ap₂, sym, ◌∙◌, arith, length-append, length-drop, take-append-drop, ne_eqb}
+use Rattle.std.proofs.Common.{◌≡◌, ℕ, zero, suc, ◌+◌, ◌-◌, ◌*◌, ◌/◌, ◌%◌, ◌≤◌, ◌==◌, Bool, true, false, cond, List, [], ◌∷◌, ◌++◌, map, length, take, drop, drop-drop, refl, ap, ap₂, sym, ◌∙◌, arith, length-append, length-drop, take-append-drop, ne_eqb}
 use Rattle.std.proofs.Math.Nat.{zero-div}
 use Rattle.std.proofs.lemmas.List.{drop_at, length-map, length-take-le, take_all, take_at}
 use Rattle.mask_bits.specs.Reading.{high, number}
@@ -9,17 +9,17 @@ use Rattle.mask_tasks.specs.declared.sizes.KeySize.{KeySize}
 use Rattle.mask_tasks.specs.declared.sizes.KeySize.TheVariants.{K80, K128}
 use Rattle.mask_tasks.specs.Sizes.{present_bytes}
 use Rattle.mask_present.specs.Present.{register}
-use Rattle.mask_lightmac.specs.LightMac.{absorbed, counted, finished, number_of, padded, piece_at, value_after as value_of_code}
+use Rattle.mask_lightmac.specs.LightMac.{absorbed, counted, finished, number_of, padded, value_after as value_of_code}
 use Rattle.mask_lightmac.specs.NamedLightMac.{named_end, named_step}
 use Rattle.mask_lightmac.proofs.Concluding.{IsCipherCircuit-named_end, IsCipherCircuit-named_step, number-end_of_bits, number-step_of_bits}
 use Rattle.mask_lightmac.proofs.Tags.{length-high}
 use Rattle.mask_trace.specs.Steps.{Plain, Key, AsKey, Registers, Step}
 use Rattle.mask_trace.specs.Values.{input_value, step_value, value_after}
 use Rattle.mask_streams.proofs.Values.{values-append}
-use Rattle.mask_macs.specs.Codes.{IsCounterLength, IsHeldBehind, IsNext, lightmac_code}
+use Rattle.mask_macs.specs.Codes.{IsCounterLength, IsHeldBehind, lightmac_code}
 use Rattle.mask_macs.specs.LightMacRuns.{ahead, counted_bytes, end_step, fed_steps, key_width, next_steps, piece_step, refresh_step, value_at, value_bits, with_key}
 use Rattle.mask_macs.proofs.LightMacPlans.{end_inputs, end_outputs, piece_at-front, piece_at-next, plans_split, some_bytes, step_inputs, step_outputs}
-use Rattle.mask_macs.proofs.LightMacRows.{IsValue, counted_is_long, padded_is_long, value_is}
+use Rattle.mask_macs.proofs.LightMacRows.{counted_is_long, padded_is_long, value_is}
 use Rattle.mask_macs.proofs.Messages.{PiecesGoOn, fed_is_held}
 use Rattle.mask_macs.proofs.Pieces.{by_pieces, count-more}
 use Rattle.mask_macs.proofs.Refreshes.{refresh_value}

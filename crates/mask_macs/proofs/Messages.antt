@@ -1,5 +1,5 @@
 -- From pieces to messages: what holds of the steps of each next piece makes the laws of whole runs.
-use Rattle.std.proofs.Common.{◌≡◌, ℕ, ◌+◌, ◌*◌, ◌%◌, ◌<◌, ◌≤◌, Bool, true, false, List, [], ◌∷◌, ◌++◌, length, take, drop, refl, ap, sym, subst, ◌∙◌, arith, length-append, length-drop, take-append-drop}
+use Rattle.std.proofs.Common.{◌≡◌, ℕ, ◌+◌, ◌<◌, ◌≤◌, Bool, true, false, List, [], ◌∷◌, ◌++◌, length, take, drop, refl, ap, sym, subst, ◌∙◌, arith, length-append, length-drop, take-append-drop}
 use Rattle.std.proofs.lemmas.List.{length-take-le}
 use Rattle.mask_trace.specs.Steps.{Registers, IsStrongPlan}
 use Rattle.mask_trace.specs.Privacy.{AreAlike}

@@ -6,9 +6,8 @@ use Rattle.std.proofs.lemmas.List.Elements.{All-map}
 use Rattle.std.proofs.lemmas.Simd.{map-map}
 use Rattle.mask_circuit.specs.Wires.{each}
 use Rattle.mask_circuit.proofs.Places.{length-each}
-use Rattle.mask_laws.proofs.CircuitNames.{All-each}
 use Rattle.mask_shares.proofs.Lists.{each-get_or, each-same, get_or-each, map-each}
-use Rattle.mask_trace.specs.Steps.{InputBit, Public, Plain, Key, State, Registers, IsNotHeld, IsThere}
+use Rattle.mask_trace.specs.Steps.{InputBit, Public, Plain, Key, State, Registers, IsNotHeld}
 use Rattle.mask_trace.specs.Privacy.{without_message}
 use Rattle.mask_trace.specs.Values.{input_value}
 use Rattle.mask_streams.proofs.Values.{each-take}
