@@ -1,12 +1,12 @@
 -- The circuits of a step and of the end meet the contract of a cipher's circuit, and their outputs are the numbers of the code.
-use Rattle.std.proofs.Common.{◌≡◌, ℕ, ◌+◌, Bool, List, length, take, drop, refl, sym, ap, ◌∙◌, lit≤}
+use Rattle.std.proofs.Common.{◌≡◌, ◌+◌, Bool, List, length, take, drop, refl, sym, ap, ◌∙◌, lit≤}
 use Rattle.std.specs.List.{range_with_len}
 use Rattle.std.proofs.lemmas.List.{length-map}
 use Rattle.std.proofs.lemmas.List.FromFn.{length-range_with_len}
-use Rattle.mask_bits.specs.Reading.{number, lowest}
+use Rattle.mask_bits.specs.Reading.{number}
 use Rattle.mask_bits.proofs.Numbers.{lowest-of}
-use Rattle.mask_circuit.specs.Netlist.{Netlist, IsCircuit, value_count}
-use Rattle.mask_circuit.specs.Value.{value_at, plain_values, plain}
+use Rattle.mask_circuit.specs.Netlist.{IsCircuit, value_count}
+use Rattle.mask_circuit.specs.Value.{value_at, plain_values}
 use Rattle.mask_circuit.specs.Acceptance.{IsStrong}
 use Rattle.mask_tasks.specs.declared.sizes.KeySize.{KeySize}
 use Rattle.mask_tasks.specs.declared.sizes.KeySize.TheVariants.{K80, K128}
@@ -14,11 +14,11 @@ use Rattle.mask_parts.specs.CipherCircuits.{Size, size_of, IsCipherCircuit}
 use Rattle.mask_parts.specs.Drafts.{bits_of, IsWithinLimits}
 use Rattle.mask_parts.proofs.Concluding.{IsCipherCircuit-strong}
 use Rattle.mask_present.specs.NamedPresent.{start, encrypted_message, named_present, present_of_bits}
-use Rattle.mask_present.specs.Present.{Register, register, present}
+use Rattle.mask_present.specs.Present.{register, present}
 use Rattle.mask_present.specs.Rounds.{rounds}
 use Rattle.mask_present.proofs.Concluding.{Grows-named, bits_of_sums}
 use Rattle.mask_present.proofs.Counting.{values_80, values_128, products_80, products_128}
-use Rattle.mask_present.proofs.Fitting.{IsShape, IsShape-register}
+use Rattle.mask_present.proofs.Fitting.{IsShape-register}
 use Rattle.mask_present.proofs.Forming.{IsCipherCircuit-named_present}
 use Rattle.mask_present.proofs.Tidying.{Formed, Formed-Grows}
 use Rattle.mask_lightmac.specs.LightMac.{absorbed, finished}

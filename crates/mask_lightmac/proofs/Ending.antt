@@ -11,7 +11,7 @@ use Rattle.mask_circuit.specs.Netlist.{Netlist, IsWellFormed, only_inputs, value
 use Rattle.mask_circuit.specs.Value.{value_at, plain_values, plain}
 use Rattle.mask_circuit.specs.Acceptance.{IsStrong}
 use Rattle.mask_parts.specs.CipherCircuits.{size_of}
-use Rattle.mask_parts.specs.Drafts.{with_gates, bits_of, Grows}
+use Rattle.mask_parts.specs.Drafts.{bits_of, Grows}
 use Rattle.mask_parts.specs.Fences.{with_fence}
 use Rattle.mask_parts.proofs.Concluding.{IsStrong-tidy_fence}
 use Rattle.mask_parts.proofs.Fencing.{IsWellFormed-fence, plain-with_fence}
@@ -28,7 +28,7 @@ use Rattle.mask_present.proofs.Forming.{Sound, AreGates-xor_gates, Formed-rounds
 use Rattle.mask_present.proofs.Holding.{All-range}
 use Rattle.mask_present.proofs.Knowing.{Known, Known-rounds}
 use Rattle.mask_present.proofs.Lengthening.{Lengthens-rounds}
-use Rattle.mask_present.proofs.Showing.{Solved, Solved-with_gates, Solved-Grows, Shows, Shows-rounds, shown, shown-xor_gates}
+use Rattle.mask_present.proofs.Showing.{Solved, Solved-with_gates, Solved-Grows, Shows-rounds, shown, shown-xor_gates}
 use Rattle.mask_present.proofs.Tidying.{Formed, IsReady, IsReady-later, Steady, Steadies-rounds, KeepsWith-layer, AllTake-xor_gates}
 use Rattle.mask_lightmac.specs.NamedLightMac.{end_start, end_of}
 

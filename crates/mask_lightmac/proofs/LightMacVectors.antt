@@ -1,6 +1,6 @@
--- Tags of LightMAC over PRESENT, of the bytes 0, 1, 2 and so on, that a program computed which shares nothing with its definitions
--- here. That program finds the published tag a825ded1b5734001 of 1,792 zero bytes under a key of 40 digits f, with a counter of 1 byte.
-use Rattle.std.proofs.Common.{◌≡◌, ℕ, List, [], ◌∷◌, refl}
+-- Tags of LightMAC over PRESENT. The first one, of 256 pieces, is known from outside; the others, of the bytes 0, 1, 2 and so on, are
+-- of a program that shares nothing with the definitions here.
+use Rattle.std.proofs.Common.{◌≡◌, ℕ, List, [], ◌∷◌, replicate, refl}
 use Rattle.std.specs.List.{range_with_len}
 use Rattle.mask_tasks.specs.declared.sizes.KeySize.TheVariants.{K80, K128}
 use Rattle.mask_parts.specs.PresentSbox.{sbox}
@@ -13,6 +13,10 @@ key_80 = range_with_len 0 20
 
 abbrev key_128 : List ℕ
 key_128 = range_with_len 224 32
+
+all_counters-80 : lightmac K80 1 8 (replicate 20 255) (replicate 1792 0) ≡ 0xa8 ∷ 0x25 ∷ 0xde ∷ 0xd1 ∷ 0xb5 ∷ 0x73 ∷ 0x40 ∷ 0x01 ∷ []
+unfolding lightmac value_before_last value_after last_piece piece_at pieces_before padded counted finished absorbed bytes_of present encrypted block_after register_after round_key updated rotated replaced substituted sbox permuted
+all_counters-80 = refl
 
 nothing-80 : lightmac K80 1 8 key_80 [] ≡ 0x14 ∷ 0xc8 ∷ 0x9b ∷ 0x5c ∷ 0x15 ∷ 0x5d ∷ 0xd4 ∷ 0x75 ∷ []
 unfolding lightmac value_before_last value_after last_piece piece_at pieces_before padded counted finished absorbed bytes_of present encrypted block_after register_after round_key updated rotated replaced substituted sbox permuted

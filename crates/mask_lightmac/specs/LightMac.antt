@@ -2,7 +2,7 @@
 --
 -- Keys, blocks and counters are big-endian numbers. A counter has s bytes, 1, 2 or 4, and a message is cut into pieces of
 -- 8 - s bytes. It has at most 2 ^ (8 * s) pieces, so that no counter comes twice.
-use Rattle.std.specs.Prelude.{ℕ, zero, suc, ◌+◌, ◌-◌, ◌*◌, ◌/◌, ◌%◌, List, [], ◌∷◌, ◌++◌, length, take, drop, replicate, bit_xor}
+use Rattle.std.specs.Prelude.{ℕ, zero, suc, ◌-◌, ◌*◌, ◌/◌, ◌%◌, List, [], ◌∷◌, ◌++◌, length, take, drop, replicate, bit_xor}
 use Rattle.mask_bits.specs.Reading.{high, number}
 use Rattle.mask_tasks.specs.declared.sizes.KeySize.{KeySize}
 use Rattle.mask_tasks.specs.Sizes.{present_bytes}
@@ -31,7 +31,7 @@ finished size k2 v block = present size k2 (bit_xor v block)
 unfoldable pub counted : ℕ → ℕ → List ℕ → ℕ
 counted s k piece = number_of (bytes_of s k ++ piece)
 
--- the bytes of the last piece with their padding: behind them come the byte 80 and zeros
+-- the bytes of the last piece with their padding: behind them come the byte 0x80 and zeros
 unfoldable pub padded : List ℕ → List ℕ
 padded piece = piece ++ 0x80 ∷ replicate (7 - length piece) 0
 

@@ -21,10 +21,14 @@ fn lay_end(b: &mut Builder, size: KeySize) -> Result<(), CircuitError>
     ensures { Lays b.old (named_end size) tt b.new result }
 {
     let width = 8 * size.bytes() as usize;
-    let mut inputs = [0; 256];
-    number_from(&mut inputs, 0);
-    let sums = xor_blocks(b, &inputs[width..width + 64], &inputs[width + 64..width + 128])?;
-    let encrypted = present_rounds(b, size, &inputs[..width], &sums)?;
+    let mut numbers = [0; 256];
+    number_from(&mut numbers, 0);
+    let inputs = &numbers[..width + 128];
+    let key = &inputs[..width];
+    let value = &inputs[width..width + 64];
+    let piece = &inputs[width + 64..];
+    let sums = xor_blocks(b, value, piece)?;
+    let encrypted = present_rounds(b, size, key, &sums)?;
     fence_outputs(b, &encrypted)
 }
 
