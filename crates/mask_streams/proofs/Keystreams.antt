@@ -6,7 +6,7 @@ use Rattle.std.proofs.lemmas.List.Elements.{All-nil, All-cons}
 use Rattle.mask_bits.specs.Reading.{low, number, AreBytes}
 use Rattle.mask_bits.proofs.Numbers.{number-lt}
 use Rattle.mask_trivium.specs.Trivium.{bytes, clocked, clocks, keystream, loaded, next_first, next_second, next_third, output, outputs, started}
-use Rattle.mask_trivium.proofs.Shifting.{length-shifted, clocks-add}
+use Rattle.mask_trivium.proofs.Shifting.{length-shifted}
 use Rattle.mask_modes.specs.CounterMode.{xor_bytes}
 use Rattle.mask_modes.proofs.Blocks.{xor_bytes_are_bytes}
 use Rattle.mask_modes.proofs.Xors.{length-xor_bytes, xor_bytes-append_right, xor_bytes-take, xor_bytes_twice}

@@ -1,20 +1,19 @@
 -- The steps of Trivium are a strong plan, split behind whole blocks, and depend on the message in its bits alone.
-use Rattle.std.proofs.Common.{◌≡◌, ℕ, zero, suc, ◌+◌, ◌-◌, ◌*◌, ◌/◌, ◌%◌, ◌<◌, ◌≤◌, ◌==◌, Bool, true, false, cond, List, [], ◌∷◌, ◌++◌, map, length, take, get_or, All, ◌⊎◌, inl, inr, refl, ap, ap₂, sym, subst, ◌∙◌, arith, length-append, append_assoc, append-nil, ne_eqb}
-use Rattle.std.proofs.lemmas.Bool.{cases_lt, eqb-false}
-use Rattle.std.proofs.lemmas.List.{length-map, map-append, get_or_append_left, get_or-append_right, take-map}
-use Rattle.std.proofs.lemmas.List.Elements.{All-tail, All-append, All-map}
+use Rattle.std.proofs.Common.{◌≡◌, ℕ, ◌+◌, ◌*◌, ◌/◌, ◌%◌, ◌<◌, ◌≤◌, ◌==◌, Bool, true, false, cond, List, [], ◌∷◌, ◌++◌, map, length, take, All, refl, ap, ap₂, sym, subst, ◌∙◌, arith, append_assoc, append-nil, ne_eqb}
+use Rattle.std.proofs.lemmas.Bool.{eqb-false}
+use Rattle.std.proofs.lemmas.List.{length-map, map-append}
+use Rattle.std.proofs.lemmas.List.Elements.{All-tail, All-map}
 use Rattle.mask_bits.specs.Reading.{low}
 use Rattle.mask_bits.proofs.Bytes.{length-low}
 use Rattle.mask_circuit.specs.Netlist.{Netlist}
 use Rattle.mask_circuit.specs.Wires.{each}
 use Rattle.mask_circuit.proofs.Places.{length-each}
-use Rattle.mask_laws.proofs.CircuitNames.{All-each}
-use Rattle.mask_shares.proofs.Lists.{get_or-each, map-each}
+use Rattle.mask_shares.proofs.Lists.{map-each}
 use Rattle.mask_parts.specs.CipherCircuits.{Size, size_of, IsCipherCircuit}
 use Rattle.mask_trivium.specs.NamedTrivium.{named_start, named_step, size_start, size_step, start_of_bits, step_of_bits}
 use Rattle.mask_trivium.proofs.Concluding.{IsCipherCircuit-named_start, IsCipherCircuit-named_step}
-use Rattle.mask_trace.specs.Steps.{InputBit, Public, Plain, Key, State, Step, IsThere, IsNotHeld, IsStrongStep, IsStrongPlan, state_after}
-use Rattle.mask_trace.specs.Privacy.{AreAlike, blank, without_message}
+use Rattle.mask_trace.specs.Steps.{InputBit, Public, Plain, Key, State, Step, IsThere, IsNotHeld, IsStrongStep, IsStrongPlan}
+use Rattle.mask_trace.specs.Privacy.{AreAlike, blank}
 use Rattle.mask_trace.proofs.Beginnings.{IsStrongPlan-take, AreAlike-take}
 use Rattle.mask_trace.proofs.Showing.{plans_are_private, plans_are_runs}
 use Rattle.mask_trace.proofs.Taking.{held_once, length-held, held_there, inputs_are_alike, with_inputs}

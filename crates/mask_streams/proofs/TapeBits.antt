@@ -1,16 +1,12 @@
 -- How many bits of the tape a run takes.
-use Rattle.std.proofs.Common.{◌≡◌, ℕ, zero, suc, ◌+◌, ◌-◌, ◌*◌, ◌/◌, ◌<◌, Bool, List, [], ◌∷◌, ◌++◌, map, length, All, refl, ap, ap₂, sym, ◌∙◌, arith}
+use Rattle.std.proofs.Common.{◌≡◌, ℕ, zero, suc, ◌+◌, ◌*◌, ◌<◌, Bool, List, [], ◌∷◌, ◌++◌, map, length, All, refl, ap, ap₂, ◌∙◌, arith}
 use Rattle.std.proofs.Math.Nat.{mul_comm}
 use Rattle.std.proofs.lemmas.List.Elements.{All-tail}
 use Rattle.mask_bits.specs.Reading.{low}
 use Rattle.mask_bits.proofs.Bytes.{length-low}
-use Rattle.mask_circuit.specs.Netlist.{Netlist, product_count, refresh_count}
-use Rattle.mask_circuit.specs.Wires.{each, pairs}
-use Rattle.mask_circuit.specs.Expansion.{draws}
-use Rattle.mask_circuit.proofs.Draws.{draws-product}
-use Rattle.mask_circuit.proofs.PairNumbers.{length-pairs}
+use Rattle.mask_circuit.specs.Wires.{each}
 use Rattle.mask_circuit.proofs.Places.{length-each}
-use Rattle.mask_parts.specs.CipherCircuits.{Size, size_of, gate_bits}
+use Rattle.mask_parts.specs.CipherCircuits.{gate_bits}
 use Rattle.mask_parts.proofs.Drawing.{draws-gates}
 use Rattle.mask_trivium.specs.NamedTrivium.{named_start, named_step, size_start, size_step}
 use Rattle.mask_trivium.proofs.Concluding.{IsCipherCircuit-named_start, IsCipherCircuit-named_step}
@@ -27,7 +23,7 @@ use Rattle.mask_streams.proofs.Plans.{block_steps-map}
 -- STEPS
 
 -- the message bits behind others
-plain_bits-behind : (front back : List InputBit) (message : List Bool) → plain_bits front ≡ [] → plain_bits back ≡ message →
+pub plain_bits-behind : (front back : List InputBit) (message : List Bool) → plain_bits front ≡ [] → plain_bits back ≡ message →
     plain_bits (front ++ back) ≡ message
 plain_bits-behind front back message none bits =
     inputs_stand_in_parts.bits_of_both front back ∙ ap₂ (λ (l r : List Bool). l ++ r) none bits

@@ -15,7 +15,7 @@ use Rattle.mask_trivium.specs.Trivium.{clocks, outputs, started}
 use Rattle.mask_trivium.specs.NamedTrivium.{named_start, named_step, start_of_bits, step_of_bits}
 use Rattle.mask_trivium.proofs.Concluding.{IsCipherCircuit-named_start, IsCipherCircuit-named_step}
 use Rattle.mask_trivium.proofs.Shifting.{clocks-add}
-use Rattle.mask_trace.specs.Steps.{Public, Plain, Key, State, Registers, Step, kept}
+use Rattle.mask_trace.specs.Steps.{Public, Plain, Key, State, Registers, Step}
 use Rattle.mask_trace.specs.Values.{input_value, step_value, value_after}
 use Rattle.mask_trace.proofs.Beginnings.{value_after-append}
 use Rattle.mask_modes.specs.CounterMode.{block_count}
@@ -29,7 +29,7 @@ use Rattle.mask_streams.proofs.Plans.{block_steps-map, start_inputs, start_outpu
 -- ONE STEP
 
 -- the first elements of a list
-each-take : {A : Type 0} (xs : List A) (n : ℕ) (d : A) → n ≤ length xs → each (λ i. get_or xs i d) n ≡ take n xs
+pub each-take : {A : Type 0} (xs : List A) (n : ℕ) (d : A) → n ≤ length xs → each (λ i. get_or xs i d) n ≡ take n xs
 each-take xs n d few =
     each-same _ (λ i. get_or (take n xs) i d) n (λ i lt. sym (get_or-take n xs i d lt))
     ∙ ap (each (λ i. get_or (take n xs) i d)) (sym (length-take-le n xs few))

@@ -1,6 +1,6 @@
 -- A run of the stream cipher Trivium (ISO/IEC 29192-3), as steps: the state is made of the key and the IV, and then each
 -- block of eight bytes takes 64 clocks. The IV has ten bytes, and so has the key.
-use Rattle.std.specs.Prelude.{◌≡◌, ℕ, zero, suc, ◌+◌, ◌*◌, ◌/◌, ◌<◌, Bool, ◌==◌, cond, List, [], ◌∷◌, ◌++◌, map, length, take}
+use Rattle.std.specs.Prelude.{◌≡◌, ℕ, zero, suc, ◌+◌, ◌*◌, ◌<◌, Bool, ◌==◌, cond, List, [], ◌∷◌, ◌++◌, map, length, take}
 use Rattle.mask_bits.specs.Reading.{low}
 use Rattle.mask_circuit.specs.Wires.{each}
 use Rattle.mask_parts.specs.CipherCircuits.{gate_bits}
