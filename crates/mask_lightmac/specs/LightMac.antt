@@ -31,7 +31,7 @@ finished size k2 v block = present size k2 (bit_xor v block)
 unfoldable pub counted : ℕ → ℕ → List ℕ → ℕ
 counted s k piece = number_of (bytes_of s k ++ piece)
 
--- the bytes of the last piece with their padding: behind them come the byte 80 and zeros
+-- the bytes of the last piece with their padding: behind them come the byte 0x80 and zeros
 unfoldable pub padded : List ℕ → List ℕ
 padded piece = piece ++ 0x80 ∷ replicate (7 - length piece) 0
 

@@ -23,7 +23,7 @@ use Rattle.mask_streams.proofs.Plans.{block_steps-map}
 -- STEPS
 
 -- the message bits behind others
-plain_bits-behind : (front back : List InputBit) (message : List Bool) → plain_bits front ≡ [] → plain_bits back ≡ message →
+pub plain_bits-behind : (front back : List InputBit) (message : List Bool) → plain_bits front ≡ [] → plain_bits back ≡ message →
     plain_bits (front ++ back) ≡ message
 plain_bits-behind front back message none bits =
     inputs_stand_in_parts.bits_of_both front back ∙ ap₂ (λ (l r : List Bool). l ++ r) none bits

@@ -29,7 +29,7 @@ use Rattle.mask_streams.proofs.Plans.{block_steps-map, start_inputs, start_outpu
 -- ONE STEP
 
 -- the first elements of a list
-each-take : {A : Type 0} (xs : List A) (n : ℕ) (d : A) → n ≤ length xs → each (λ i. get_or xs i d) n ≡ take n xs
+pub each-take : {A : Type 0} (xs : List A) (n : ℕ) (d : A) → n ≤ length xs → each (λ i. get_or xs i d) n ≡ take n xs
 each-take xs n d few =
     each-same _ (λ i. get_or (take n xs) i d) n (λ i lt. sym (get_or-take n xs i d lt))
     ∙ ap (each (λ i. get_or (take n xs) i d)) (sym (length-take-le n xs few))

@@ -1,0 +1,9 @@
+use Rattle.mask_macs.proofs.ChaskeyTags as chaskey
+use Rattle.mask_macs.proofs.LightMacTags as light
+use Rattle.mask_macs.proofs.laws.output_goes_on.Goals as goal
+
+pub returns : goal.returns
+returns c = record {
+  chaskey = chaskey.output_goes_on;
+  lightmac = light.output_goes_on;
+}

@@ -1,0 +1,4 @@
+pub mod ChaskeyRuns
+pub mod Codes
+pub mod Laws
+pub mod LightMacRuns
