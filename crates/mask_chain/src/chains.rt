@@ -48,11 +48,12 @@ impl<const N: usize> Model for ChainRun<N> {
 impl<const N: usize> ChainRun<N> {
     /// A run with this key and no state. The shares of a bit are those of lane 0.
     pub fn new(alloc: Global, key: &[Shares<N>]) -> Result<ChainRun<N>, AllocError>
+        requires some { 2 ≤ N }
         requires few { N ≤ 8 }
         ensures value { IfOk result (λ run. run ≡ record { key = map (lane 0) key.now; state = [] }) }
         ensures shares { IfOk result (λ run. HasShares N (length key.now) 0 run) }
     {
-        let mut own = vec![in alloc; Shares::from_parts([0; N]); key.len()]?;
+        let mut own = vec![in alloc; Shares::public(0); key.len()]?;
         put(key, 0, &mut own);
         Ok(ChainRun {
             key: own,
@@ -85,6 +86,8 @@ impl<const N: usize> ChainRun<N> {
         requires kept { length tape.old < 8 }
         ensures ran { OnOk result (Ran N self.old (step part.old own.now ∷ []) self.new
             (stand tape.old (E.left entropy.old) (W.told watch.old)) (stand tape.new (E.left entropy.new) (W.told watch.new))) }
+        ensures lengths { OnOk result ((length self.new.key ≡ length self.old.key)
+            × (length self.new.state ≡ state_after (keeps own.now.keep) part.old (length self.old.state))) }
         ensures wants { OnOk result (E.wanted entropy.new ≡ E.wanted entropy.old) }
         ensures steps { OnOk result (steps.new ≡ steps.old + length part.old.gates) }
 
@@ -127,6 +130,8 @@ impl<const N: usize> ChainRun<N> {
         requires kept { length tape.old < 8 }
         ensures ran { OnOk result (Ran N self.old (step first.old ahead.now ∷ step part.old own.now ∷ []) self.new
             (stand tape.old (E.left entropy.old) (W.told watch.old)) (stand tape.new (E.left entropy.new) (W.told watch.new))) }
+        ensures lengths { OnOk result ((length self.new.key ≡ length self.old.key)
+            × (length self.new.state ≡ state_after (keeps own.now.keep) part.old (state_after (keeps ahead.now.keep) first.old (length self.old.state)))) }
         ensures wants { OnOk result (E.wanted entropy.new ≡ E.wanted entropy.old) }
         ensures steps { OnOk result (steps.new ≡ steps.old + (length first.old.gates + length part.old.gates)) }
 
@@ -212,7 +217,6 @@ impl<const N: usize> ChainRun<N> {
 
     // Keeps these outputs. There is room for them as a state.
     fn keep(&mut self, outputs: &[Shares<N>], keep: Keep, mut room: Vec<Shares<N>>)
-        requires few { N ≤ 8 }
         requires room { length room.items ≡ length outputs.now }
         requires key { keep ≡ Keep.AsKey → length outputs.now ≤ length self.old.key }
         ensures { self.new ≡ kept (keeps keep) (map (lane 0) outputs.now) self.old }

@@ -63,14 +63,15 @@ fn lay_one<const N: usize>(
 
 /// Puts these shares at the places from this one on.
 pub(crate) fn put<const N: usize>(shares: &[Shares<N>], start: usize, places: &mut [Shares<N>])
-    requires few { N ≤ 8 }
     requires room { start + length shares.now ≤ length places.old }
     ensures front { take (start + length shares.now) places.new ≡ take start places.old ++ shares.now }
     ensures rest { drop (start + length shares.now) places.new ≡ drop (start + length shares.now) places.old }
     ensures counts { All (λ s. length s ≡ N) shares.now }
 {
     for (k, shared) in shares.iter().enumerate() {
-        places[start + k] = Shares::from_parts(shared.parts());
+        // There are N of each.
+        let _count = shared.count();
+        places[start + k] = *shared;
     }
 }
 

@@ -10,3 +10,6 @@ mod parts;
 pub use chains::ChainRun;
 pub use evaluations::{Evaluation, Keep, Source};
 pub use parts::Part;
+
+#[cfg(test)]
+mod tests;

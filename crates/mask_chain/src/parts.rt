@@ -49,7 +49,7 @@ impl<const N: usize> Part<N> {
     {
         let admitted = circuit.admitted();
         let count = admitted.circuit().inputs() as usize;
-        let inputs = vec![in alloc; Shares::from_parts([0; N]); count]?;
+        let inputs = vec![in alloc; Shares::public(0); count]?;
         let frame = Frame::new(alloc, admitted)?;
         Ok(Part {
             circuit,
@@ -77,7 +77,7 @@ impl<const N: usize> Part<N> {
         let circuit = admitted.circuit();
         let order = N as u32 - 1;
         let coins = coin_room(alloc, admitted, order, 1, own.message.len())?;
-        let outputs = vec![in alloc; Shares::from_parts([0; N]); circuit.outputs().len()]?;
+        let outputs = vec![in alloc; Shares::public(0); circuit.outputs().len()]?;
         watch.room(circuit, order, 1)?;
         Ok(Room { coins, outputs })
     }
