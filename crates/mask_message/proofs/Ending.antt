@@ -144,8 +144,12 @@ module _ (task : Task) (N : ℕ) (lines : List (List ℕ)) (o : Outside) (kept :
       o.steps_after ≤ now + gates_for s piece last → o.steps_after ≤ o.steps_before + most_run_steps task (length (front ++ piece))
   counted piece true few all more = counted-ends piece few more
   counted piece false few all more =
-      omega (arith, begun, counted-fed task N lines front piece s (at_first o) b so_far.behind so_far.whole (all refl) steps now o.steps_after so_far.counted more,
-      gates_go_on.fewer task (length (front ++ piece)))
+      omega (
+        arith,
+        begun,
+        counted-fed task N lines front piece s (at_first o) b so_far.behind so_far.whole (all refl) steps now o.steps_after so_far.counted more,
+        gates_go_on.fewer task (length (front ++ piece)),
+      )
 
   -- nothing was counted behind whole batches
   uncounted : (piece : List ℕ) → length piece ≤ batch_length task → o.steps_after ≡ now → o.steps_after ≤ o.steps_before + most_run_steps task (length (front ++ piece))
@@ -349,10 +353,14 @@ stops_at_start task N lines o some is_task cipher many key unread unwritten idle
     let so_far = so_far-none task N lines first o.left_before o.out_before o.steps_after (at_first o) refl refl key in
     under_task task task N lines o NoMemory many refl
     (takes task N lines o [] some is_task cipher [] first o.left_before o.out_before o.steps_after o.steps_after (at_first o) so_far begun [] NoMemory
-    (subst (λ (left : Option (List ℕ)). Consumes o.left_before left []) (sym unread) (Consumes-nil o.left_before))
-    ([], [], refl, omega arith,
+    (subst (λ (left : Option (List ℕ)). Consumes o.left_before left []) (sym unread) (Consumes-nil o.left_before)) (
+      [],
+      [],
+      refl,
+      omega arith,
       wrote_batches task N lines o [] some is_task cipher [] first o.left_before o.out_before o.steps_after o.steps_after (at_first o) so_far begun []
-      _ (goes_on task N lines o [] some is_task cipher [] first o.left_before o.out_before o.steps_after o.steps_after (at_first o) so_far begun []) unwritten idle)
+          _ (goes_on task N lines o [] some is_task cipher [] first o.left_before o.out_before o.steps_after o.steps_after (at_first o) so_far begun []) unwritten idle,
+    )
     (uncounted task N lines o [] some is_task cipher [] first o.left_before o.out_before o.steps_after o.steps_after (at_first o) so_far begun [] (omega arith) refl))
 
 -- the status says that the tape failed where the refusal does

@@ -141,7 +141,15 @@ fn encrypt_batches<const N: usize, S: Source, E: Entropy, O: Sink, W: Watch, L: 
             Err(_) => return Status::ReadFault,
         };
         let last = count < piece.len();
-        match advance(session, &piece[..count], last, &mut tape, entropy, watch, steps) {
+        match advance(
+            session,
+            &piece[..count],
+            last,
+            &mut tape,
+            entropy,
+            watch,
+            steps,
+        ) {
             Ok(()) => {}
             Err(stop) => return status_of(stop),
         }

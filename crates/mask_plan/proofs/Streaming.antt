@@ -19,7 +19,7 @@ use Rattle.mask_streams.proofs.Keystreams.{output_fits}
 use Rattle.mask_streams.proofs.Plans.{plans_are_strong}
 use Rattle.mask_chain.specs.Chains as chain
 use Rattle.mask_keystream.specs.Streaming.{Between}
-use Rattle.mask_keystream.proofs.Pieces.{one_piece}
+use Rattle.mask_keystream.proofs.Pieces.{steps_of_piece}
 use Rattle.mask_ciphers.specs.Methods.{Method, InCounterMode, AsStream, batch, gates_of, next_gates}
 use Rattle.mask_ciphers.specs.Laws.{IsSound}
 use Rattle.mask_plan.specs.declared.runs.TaskRun.TheVariants.{Stream}
@@ -115,7 +115,7 @@ pub stopped : (N : ℕ) (method : Method) (run run' : Between) (fed : ℕ) (piec
     Stopped N method fed piece last (Stream run) wanted counted counted' a b
 stopped N (AsStream iv) run run' fed piece last wanted counted counted' a b on some few stop =
     let steps : ahead run.iv fed ++ stream_step (block_at 8 piece 0) ∷ [] ≡ steps_behind iv fed piece
-    = sym (one_piece run.iv fed piece some few) ∙ ap (λ (v : List ℕ). steps_behind v fed piece) on.iv_is in
+    = sym (steps_of_piece run.iv fed piece some few) ∙ ap (λ (v : List ℕ). steps_behind v fed piece) on.iv_is in
     record {
       count = stop.count;
       ran = rw (← steps) stop.ran;
