@@ -14,10 +14,10 @@ shares-lane N values own =
     All-map (λ shares. length shares ≡ N) (lane 0) values (λ k d lt. length-map _ (bit 0) ∙ own k d lt)
 
 pub has_shares : (N : ℕ) (key state : List (List ℕ)) → AreShares N key → AreShares N state →
-    HasShares N (length (registers key state).key) (length (registers key state).state) (registers key state)
+    HasShares N (length key) (length state) (registers key state)
 has_shares N key state own_key own_state = record {
-  key = refl;
-  state = refl;
+  key = length-map key (lane 0);
+  state = length-map state (lane 0);
   key_shares = shares-lane N key own_key;
   state_shares = shares-lane N state own_state;
 }

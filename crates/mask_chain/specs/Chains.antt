@@ -6,9 +6,17 @@ use Rattle.mask_trace.specs.Steps.{Registers, Step, bits_of}
 use Rattle.mask_trace.specs.Traces.{BitShares}
 use Rattle.mask_trace.specs.Drawing.{Stand, RanPart}
 
+-- a run between its evaluations: the words of its key and of its state
+pub record Chain : Type 0 where
+  pub key : List (List ℕ)
+  pub state : List (List ℕ)
+
 -- what is in shares: a bit's shares stand in lane 0
 abbrev pub registers : List (List ℕ) → List (List ℕ) → Registers BitShares
 registers key state = record { key = map (lane 0) key; state = map (lane 0) state }
+
+abbrev pub have : Chain → Registers BitShares
+have run = registers run.key run.state
 
 -- words of N shares each
 abbrev pub AreShares : ℕ → List (List ℕ) → Type 0
@@ -16,9 +24,9 @@ AreShares N values = All (λ value. length value ≡ N) values
 
 -- The tape failed behind the first of these steps, none or all that come ahead of the own one, and their gates alone were
 -- counted. The run has what they leave. It wants just the new bytes that the next one needs, at least one.
-pub record Stopped (N : ℕ) (have now : Registers BitShares) (ahead : List Step) (own : Step) (wanted counted counted' : ℕ) (a b : Stand) : Type 0 where
+pub record Stopped (N : ℕ) (had now : Registers BitShares) (ahead : List Step) (own : Step) (wanted counted counted' : ℕ) (a b : Stand) : Type 0 where
   pub count : ℕ
-  pub ran : RanPart N have (ahead ++ own ∷ []) count a b
+  pub ran : RanPart N had (ahead ++ own ∷ []) count a b
   pub holds : now ≡ ran.now
   pub few : count ≤ length ahead
   pub counts : counted' ≡ counted + sum_by (λ step. length step.circuit.gates) (take count ahead)

@@ -11,7 +11,7 @@ ghost use Rattle.mask_trace.specs.Values.{HasShares};
 ghost use Rattle.mask_trace.specs.Drawing.{Ran, stand};
 ghost use Rattle.mask_chain.specs.declared.evaluations.Keep.TheVariants as Keep;
 ghost use Rattle.mask_chain.specs.Evaluations.{Suits, keeps, step};
-ghost use Rattle.mask_chain.specs.Chains.{AreShares, Stopped};
+ghost use Rattle.mask_chain.specs.Chains.{AreShares, Stopped, have};
 
 use crate::evaluating::evaluate_on;
 use crate::evaluations::{Evaluation, Keep};
@@ -34,13 +34,11 @@ pub struct ChainRun<const N: usize> {
 }
 
 impl<const N: usize> Model for ChainRun<N> {
-    ghost use Rattle.mask_trace.specs.Steps.{Registers};
-    ghost use Rattle.mask_trace.specs.Traces.{BitShares};
-    ghost use Rattle.mask_chain.specs.Chains.{AreShares, registers};
+    ghost use Rattle.mask_chain.specs.Chains.{AreShares, Chain};
 
-    ghost Value = { Registers BitShares };
+    ghost Value = { Chain };
 
-    ghost view = { λ r. registers r.key.items r.state.items };
+    ghost view = { λ r. record { key = r.key.items; state = r.state.items } };
 
     ghost invariant = { λ r. AreShares N r.key.items × AreShares N r.state.items };
 }
@@ -50,8 +48,8 @@ impl<const N: usize> ChainRun<N> {
     pub fn new(alloc: Global, key: &[Shares<N>]) -> Result<ChainRun<N>, AllocError>
         requires some { 2 ≤ N }
         requires few { N ≤ 8 }
-        ensures value { IfOk result (λ run. run ≡ record { key = map (lane 0) key.now; state = [] }) }
-        ensures shares { IfOk result (λ run. HasShares N (length key.now) 0 run) }
+        ensures value { IfOk result (λ run. run ≡ record { key = key.now; state = [] }) }
+        ensures shares { IfOk result (λ run. HasShares N (length key.now) 0 (have run)) }
     {
         let mut own = vec![in alloc; Shares::public(0); key.len()]?;
         put(key, 0, &mut own);
@@ -63,8 +61,8 @@ impl<const N: usize> ChainRun<N> {
 
     /// The state: what the latest evaluation put out whose outputs became the state. The shares of a bit stand in lane 0.
     pub fn state(&self) -> &[Shares<N>]
-        ensures value { map (lane 0) result.now ≡ self.now.state }
-        ensures shares { HasShares N (length self.now.key) (length self.now.state) self.now }
+        ensures value { result.now ≡ self.now.state }
+        ensures shares { HasShares N (length self.now.key) (length self.now.state) (have self.now) }
     {
         &self.state
     }
@@ -84,7 +82,7 @@ impl<const N: usize> ChainRun<N> {
         requires few { N ≤ 8 }
         requires suits { Suits (length self.old.key) (length self.old.state) part.old own.now }
         requires kept { length tape.old < 8 }
-        ensures ran { OnOk result (Ran N self.old (step part.old own.now ∷ []) self.new
+        ensures ran { OnOk result (Ran N (have self.old) (step part.old own.now ∷ []) (have self.new)
             (stand tape.old (E.left entropy.old) (W.told watch.old)) (stand tape.new (E.left entropy.new) (W.told watch.new))) }
         ensures lengths { OnOk result ((length self.new.key ≡ length self.old.key)
             × (length self.new.state ≡ state_after (keeps own.now.keep) part.old (length self.old.state))) }
@@ -92,7 +90,7 @@ impl<const N: usize> ChainRun<N> {
         ensures steps { OnOk result (steps.new ≡ steps.old + length part.old.gates) }
 
         // Where the entropy fails, nothing was evaluated.
-        ensures stopped { IfErr result (λ e. e ≡ TapeError.Failed → Stopped N self.old self.new [] (step part.old own.now)
+        ensures stopped { IfErr result (λ e. e ≡ TapeError.Failed → Stopped N (have self.old) (have self.new) [] (step part.old own.now)
             (E.wanted entropy.new) steps.old steps.new
             (stand tape.old (E.left entropy.old) (W.told watch.old)) (stand tape.new (E.left entropy.new) (W.told watch.new))) }
         ensures same { OnErr result (self.new ≡ self.old) }
@@ -128,7 +126,7 @@ impl<const N: usize> ChainRun<N> {
         requires ahead { Suits (length self.old.key) (length self.old.state) first.old ahead.now }
         requires suits { Suits (length self.old.key) (state_after (keeps ahead.now.keep) first.old (length self.old.state)) part.old own.now }
         requires kept { length tape.old < 8 }
-        ensures ran { OnOk result (Ran N self.old (step first.old ahead.now ∷ step part.old own.now ∷ []) self.new
+        ensures ran { OnOk result (Ran N (have self.old) (step first.old ahead.now ∷ step part.old own.now ∷ []) (have self.new)
             (stand tape.old (E.left entropy.old) (W.told watch.old)) (stand tape.new (E.left entropy.new) (W.told watch.new))) }
         ensures lengths { OnOk result ((length self.new.key ≡ length self.old.key)
             × (length self.new.state ≡ state_after (keeps own.now.keep) part.old (state_after (keeps ahead.now.keep) first.old (length self.old.state)))) }
@@ -136,9 +134,10 @@ impl<const N: usize> ChainRun<N> {
         ensures steps { OnOk result (steps.new ≡ steps.old + (length first.old.gates + length part.old.gates)) }
 
         // Where the entropy fails, nothing was evaluated or the first circuit alone.
-        ensures stopped { IfErr result (λ e. e ≡ TapeError.Failed → Stopped N self.old self.new (step first.old ahead.now ∷ []) (step part.old own.now)
+        ensures stopped { IfErr result (λ e. e ≡ TapeError.Failed → Stopped N (have self.old) (have self.new) (step first.old ahead.now ∷ []) (step part.old own.now)
             (E.wanted entropy.new) steps.old steps.new
             (stand tape.old (E.left entropy.old) (W.told watch.old)) (stand tape.new (E.left entropy.new) (W.told watch.new))) }
+        ensures key { OnErr result (length self.new.key ≡ length self.old.key) }
         ensures no_memory { IfErr result (λ e. e ≡ TapeError.NoMemory → (self.new ≡ self.old) × (tape.new ≡ tape.old)
             × (entropy.new ≡ entropy.old) × (W.told watch.new ≡ W.told watch.old) × (steps.new ≡ steps.old)) }
         ensures first { first.new ≡ first.old }
@@ -176,7 +175,7 @@ impl<const N: usize> ChainRun<N> {
         requires outputs { length room.outputs.items ≡ length part.old.outputs }
         requires ready { IsReadyFor (W.ready watch.old) part.old (N - 1) 1 }
         requires kept { length tape.old < 8 }
-        ensures ran { OnOk result (Ran N self.old (step part.old own.now ∷ []) self.new
+        ensures ran { OnOk result (Ran N (have self.old) (step part.old own.now ∷ []) (have self.new)
             (stand tape.old (E.left entropy.old) (W.told watch.old)) (stand tape.new (E.left entropy.new) (W.told watch.new))) }
         ensures lengths { OnOk result ((length self.new.key ≡ length self.old.key)
             × (length self.new.state ≡ state_after (keeps own.now.keep) part.old (length self.old.state))) }
@@ -219,7 +218,8 @@ impl<const N: usize> ChainRun<N> {
     fn keep(&mut self, outputs: &[Shares<N>], keep: Keep, mut room: Vec<Shares<N>>)
         requires room { length room.items ≡ length outputs.now }
         requires key { keep ≡ Keep.AsKey → length outputs.now ≤ length self.old.key }
-        ensures { self.new ≡ kept (keeps keep) (map (lane 0) outputs.now) self.old }
+        ensures kept { have self.new ≡ kept (keeps keep) (map (lane 0) outputs.now) (have self.old) }
+        ensures key { length self.new.key ≡ length self.old.key }
     {
         match keep {
             Keep::AsKey => put(outputs, 0, &mut self.key),

@@ -2,11 +2,10 @@ use Rattle.std.proofs.Common.{◌≡◌, ℕ, List, ◌++◌, length, map, drop,
 use Rattle.std.proofs.lemmas.List.{with_items_is}
 use Rattle.std.proofs.lemmas.List.Elements.{All-append, All-drop}
 use Rattle.mask_bits.specs.Lanes.{lane}
-use Rattle.mask_trace.specs.Steps.{Registers, kept}
+use Rattle.mask_trace.specs.Steps.{kept}
 use Rattle.mask_trace.specs.Steps as steps
-use Rattle.mask_trace.specs.Traces.{BitShares}
 use Rattle.mask_chain.specs.Evaluations.{keeps}
-use Rattle.mask_chain.specs.Chains.{AreShares, registers}
+use Rattle.mask_chain.specs.Chains.{AreShares, Chain, have, registers}
 use Rattle.mask_chain.proofs.Registers.{put_front, registers-front}
 use Rattle.mask_chain.proofs.chains.ChainRun.keep.Goals as goal
 
@@ -22,8 +21,8 @@ invariant_of-self g c =
       c.self.invariant.1,
     )
 
-pub returns-in-AsKey : goal.returns-in-AsKey
-returns-in-AsKey g c =
+pub returns-in-AsKey-clause-kept : goal.returns-in-AsKey-clause-kept
+returns-in-AsKey-clause-kept g c =
     let long : length c.put.new.places ≡ c.self.inside.key.len = omega arith in
     let outputs = c.args.outputs.now in
     let state = c.self.inside.state.items in
@@ -32,5 +31,5 @@ returns-in-AsKey g c =
     (with_items_is c.self.inside.key c.put.new.places long ∙ placed
     ∙ ap (λ (old : List (List ℕ)). outputs ++ drop (length outputs) old) c.deref_mut.ensures.value)
     ∙ registers-front outputs c.self.inside.key.items state
-    ∙ ap (λ (have : Registers BitShares). kept steps.AsKey (map (lane 0) outputs) have) c.self.view_is
-    ∙ ap (λ keep. kept (keeps keep) (map (lane 0) outputs) c.args.self.now) (sym c.in-AsKey.is)
+    ∙ ap (λ (run : Chain). kept steps.AsKey (map (lane 0) outputs) (have run)) c.self.view_is
+    ∙ ap (λ keep. kept (keeps keep) (map (lane 0) outputs) (have c.args.self.now)) (sym c.in-AsKey.is)

@@ -1,7 +1,6 @@
 use Rattle.std.proofs.Common.{◌≡◌, ℕ, ◌≤◌, List, [], ◌++◌, length, ap, ap₂, sym, subst, ◌∙◌, arith}
-use Rattle.std.proofs.lemmas.List.{append-nil, drop_all, length-map, with_items_is}
+use Rattle.std.proofs.lemmas.List.{append-nil, drop_all, with_items_is}
 use Rattle.std.proofs.lemmas.List.Elements.{All-nil}
-use Rattle.mask_bits.specs.Lanes.{lane}
 use Rattle.mask_trace.specs.Values.{HasShares}
 use Rattle.mask_chain.specs.Chains.{registers}
 use Rattle.mask_chain.proofs.Registers.{has_shares, put_front}
@@ -17,5 +16,4 @@ returns-clause-shares g c =
     ∙ ap (λ (rest : List (List ℕ)). key ++ rest) (drop_all (length key) old filled) ∙ append-nil key in
     subst (HasShares g.row.N (length key) 0)
     (sym (ap₂ registers (with_items_is c.in_ok-own.own c.put.new.places long ∙ placed) c.new.ensures.items))
-    (subst (λ (n : ℕ). HasShares g.row.N n 0 (registers key [])) (length-map key (lane 0))
-    (has_shares g.row.N key [] c.put.ensures.counts (All-nil (λ (value : List ℕ). length value ≡ g.row.N))))
+    (has_shares g.row.N key [] c.put.ensures.counts (All-nil (λ (value : List ℕ). length value ≡ g.row.N)))

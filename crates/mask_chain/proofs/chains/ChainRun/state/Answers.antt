@@ -1,10 +1,10 @@
 use Rattle.std.proofs.Common.{length, map, subst, ap, sym, ◌∙◌}
 use Rattle.mask_trace.specs.Values.{HasShares}
-use Rattle.mask_chain.specs.Chains.{registers}
+use Rattle.mask_chain.specs.Chains.{Chain, have}
 use Rattle.mask_chain.proofs.Registers.{has_shares}
 use Rattle.mask_chain.proofs.chains.ChainRun.state.Goals as goal
 
 pub returns-clause-shares : goal.returns-clause-shares
 returns-clause-shares g c =
-    subst (λ have. HasShares g.row.N (length have.key) (length have.state) have) c.self.view_is
+    subst (λ (run : Chain). HasShares g.row.N (length run.key) (length run.state) (have run)) c.self.view_is
     (has_shares g.row.N c.self.inside.key.items c.self.inside.state.items c.self.invariant.0 c.self.invariant.1)

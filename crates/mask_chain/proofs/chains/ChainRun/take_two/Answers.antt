@@ -3,6 +3,7 @@ use Rattle.mask_eval.specs.Watching.{awaited}
 use Rattle.mask_trace.specs.Drawing.{Stand, Ran, stand}
 use Rattle.mask_trace.proofs.Drawing.{draws_join, runs_join, same_stand}
 use Rattle.mask_chain.specs.Evaluations.{Suits, step}
+use Rattle.mask_chain.specs.Chains.{have}
 use Rattle.mask_chain.proofs.Stopping.{stopped_first, stopped_behind}
 use Rattle.mask_chain.proofs.chains.ChainRun.take_two.Goals as goal
 
@@ -11,8 +12,8 @@ returns-in-Err-clause-stopped g c = λ _.
     let first = step c.args.first.now c.args.ahead.now in
     let own = step c.args.part.now c.args.own.now in
     let told = ap g.W.Watch.told c.in-Err.ensures.watch ∙ c.room-2.ensures.told ∙ c.room.ensures.told ∙ c.cancel.ensures.told in
-    stopped_first g.row.N c.args.self.now own _ _ _ c.evaluate.new.self (first ∷ []) first (own ∷ []) (stand c.args.tape.now _ _) (stand c.evaluate.new.tape _ _) refl
-    c.in-Err.ensures.same (same_stand _ _ _ _ _ _ (sym c.in-Err.ensures.tape) (sym c.in-Err.ensures.left) (sym told))
+    stopped_first g.row.N (have c.args.self.now) own _ _ _ (have c.evaluate.new.self) (first ∷ []) first (own ∷ []) (stand c.args.tape.now _ _) (stand c.evaluate.new.tape _ _) refl
+    (ap have c.in-Err.ensures.same) (same_stand _ _ _ _ _ _ (sym c.in-Err.ensures.tape) (sym c.in-Err.ensures.left) (sym told))
     c.requires.kept c.in-Err.ensures.uncounted c.in-Err.ensures.failed.0 c.in-Err.ensures.failed.1
 
 pub evaluate-requires : goal.evaluate-requires
@@ -81,8 +82,8 @@ returns-in-Ok-evaluate-clause-ran g c =
     let own = step c.args.part.now c.args.own.now in
     let told = c.room-2.ensures.told ∙ c.room.ensures.told ∙ c.cancel.ensures.told in
     let b = stand c.evaluate.new.tape (g.E.Entropy.left c.evaluate.new.entropy) (g.W.Watch.told c.evaluate.new.watch) in
-    runs_join.all g.row.N c.args.self.now c.evaluate.new.self c.evaluate-2.new.self (first ∷ []) (own ∷ []) _ b _
-    (subst (λ (a : Stand). Ran g.row.N c.args.self.now (first ∷ []) c.evaluate.new.self a b) (same_stand _ _ _ _ _ _ refl refl told) c.in-Ok.ensures.ran)
+    runs_join.all g.row.N (have c.args.self.now) (have c.evaluate.new.self) (have c.evaluate-2.new.self) (first ∷ []) (own ∷ []) _ b _
+    (subst (λ (a : Stand). Ran g.row.N (have c.args.self.now) (first ∷ []) (have c.evaluate.new.self) a b) (same_stand _ _ _ _ _ _ refl refl told) c.in-Ok.ensures.ran)
     c.in-Ok-evaluate.ensures.ran
 
 pub returns-in-Err-evaluate-clause-stopped : goal.returns-in-Err-evaluate-clause-stopped
@@ -92,8 +93,8 @@ returns-in-Err-evaluate-clause-stopped g c = λ _.
     let told = c.room-2.ensures.told ∙ c.room.ensures.told ∙ c.cancel.ensures.told in
     let behind = ap g.W.Watch.told c.in-Err-evaluate.ensures.watch in
     let b = stand c.evaluate.new.tape (g.E.Entropy.left c.evaluate.new.entropy) (g.W.Watch.told c.evaluate.new.watch) in
-    stopped_behind g.row.N c.args.self.now own _ _ _ c.evaluate.new.self c.evaluate-2.new.self first _ b (stand c.evaluate-2.new.tape _ _)
-    (subst (λ (a : Stand). Ran g.row.N c.args.self.now (first ∷ []) c.evaluate.new.self a b) (same_stand _ _ _ _ _ _ refl refl told) c.in-Ok.ensures.ran)
-    c.in-Err-evaluate.ensures.same
+    stopped_behind g.row.N (have c.args.self.now) own _ _ _ (have c.evaluate.new.self) (have c.evaluate-2.new.self) first _ b (stand c.evaluate-2.new.tape _ _)
+    (subst (λ (a : Stand). Ran g.row.N (have c.args.self.now) (first ∷ []) (have c.evaluate.new.self) a b) (same_stand _ _ _ _ _ _ refl refl told) c.in-Ok.ensures.ran)
+    (ap have c.in-Err-evaluate.ensures.same)
     (same_stand _ _ _ _ _ _ (sym c.in-Err-evaluate.ensures.tape) (sym c.in-Err-evaluate.ensures.left) (sym behind))
     (c.in-Err-evaluate.ensures.uncounted ∙ c.in-Ok.ensures.steps) c.in-Err-evaluate.ensures.failed.0 c.in-Err-evaluate.ensures.failed.1

@@ -1,0 +1,9 @@
+use Rattle.std.proofs.Common.{◌%◌, ap, ◌∙◌}
+use Rattle.mask_bits.specs.Reading.{bit}
+use Rattle.mask_keystream.proofs.BitWords.{bit_is, bit_of_bool}
+use Rattle.mask_keystream.proofs.words.word_of.Goals as goal
+
+pub returns : goal.returns
+returns c =
+    ap (bit 0) c.from-2.ensures ∙ bit_of_bool c.bit_of.result ∙ c.bit_of.ensures ∙ ap (bit (c.args.j % 8)) c.from.ensures
+    ∙ bit_is c.args.bytes.now c.args.j c.requires

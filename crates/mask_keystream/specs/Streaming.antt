@@ -1,0 +1,20 @@
+-- A run of Trivium between its pieces.
+use Rattle.std.specs.Prelude.{◌≡◌, ℕ, List, length}
+use Rattle.mask_circuit.specs.Netlist.{Netlist}
+use Rattle.mask_trace.specs.Steps.{Registers}
+use Rattle.mask_trace.specs.Traces.{BitShares}
+use Rattle.mask_trivium.specs.NamedTrivium.{named_start, named_step}
+use Rattle.mask_chain.specs.Chains.{Chain}
+
+-- the IV, what the run has in shares, and the words of the latest outputs
+pub record Between : Type 0 where
+  pub iv : List ℕ
+  pub held : Registers BitShares
+  pub outputs : List (List ℕ)
+
+-- The circuits are those of Trivium, and the key has 80 bits.
+pub record IsInForm (start step : Netlist) (run : Chain) (iv : List ℕ) : Type 0 where
+  pub is_start : start ≡ named_start
+  pub is_step : step ≡ named_step
+  pub key : length run.key ≡ 80
+  pub ten : length iv ≡ 10
