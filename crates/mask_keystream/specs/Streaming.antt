@@ -1,5 +1,5 @@
 -- A run of Trivium between its pieces.
-use Rattle.std.specs.Prelude.{◌≡◌, ℕ, List, length}
+use Rattle.std.specs.Prelude.{◌≡◌, ℕ, ◌==◌, cond, List, length}
 use Rattle.mask_circuit.specs.Netlist.{Netlist}
 use Rattle.mask_trace.specs.Steps.{Registers}
 use Rattle.mask_trace.specs.Traces.{BitShares}
@@ -12,9 +12,14 @@ pub record Between : Type 0 where
   pub held : Registers BitShares
   pub outputs : List (List ℕ)
 
+-- what is handed out: what a piece left, or these words where no piece was taken
+abbrev pub shown : List (List ℕ) → List (List ℕ) → List (List ℕ)
+shown blank state = cond (length state == 352) state blank
+
 -- The circuits are those of Trivium, and the key has 80 bits.
-pub record IsInForm (start step : Netlist) (run : Chain) (iv : List ℕ) : Type 0 where
+pub record IsInForm (start step : Netlist) (run : Chain) (blank : List (List ℕ)) (iv : List ℕ) : Type 0 where
   pub is_start : start ≡ named_start
   pub is_step : step ≡ named_step
   pub key : length run.key ≡ 80
+  pub blanks : length blank ≡ 352
   pub ten : length iv ≡ 10

@@ -31,18 +31,20 @@ pub struct StreamRun<const N: usize> {
     start: Part<N>,
     step: Part<N>,
     chain: ChainRun<N>,
+    // What is handed out ahead of the first piece.
+    blank: Vec<Shares<N>>,
     iv: [u8; 10],
 }
 
 impl<const N: usize> Model for StreamRun<N> {
     ghost use Rattle.mask_chain.specs.Chains.{have};
-    ghost use Rattle.mask_keystream.specs.Streaming.{Between, IsInForm};
+    ghost use Rattle.mask_keystream.specs.Streaming.{Between, IsInForm, shown};
 
     ghost Value = { Between };
 
-    ghost view = { λ r. record { iv = r.iv; held = have r.chain; outputs = r.chain.state } };
+    ghost view = { λ r. record { iv = r.iv; held = have r.chain; outputs = shown r.blank.items r.chain.state } };
 
-    ghost invariant = { λ r. IsInForm r.start r.step r.chain r.iv };
+    ghost invariant = { λ r. IsInForm r.start r.step r.chain r.blank.items r.iv };
 }
 
 impl<const N: usize> StreamRun<N> {
@@ -70,18 +72,25 @@ impl<const N: usize> StreamRun<N> {
             start: Part::new(alloc, start)?,
             step: Part::new(alloc, step)?,
             chain: ChainRun::new(alloc, key)?,
+            blank: vec![in alloc; Shares::from_parts([0; N]); 352]?,
             iv: *iv,
         })
     }
 
     /// What the latest piece put out: the 288 bits of the cipher's state, and behind them the 64 bits of the result. The shares
-    /// of a bit stand in lane 0. Ahead of the first piece there is nothing.
+    /// of a bit stand in lane 0. Ahead of the first piece they are zeros.
     pub fn outputs(&self) -> &[Shares<N>]
         ensures value { result.now ≡ self.now.outputs }
-        ensures lanes { map (lane 0) self.now.outputs ≡ self.now.held.state }
+        ensures count { length self.now.outputs ≡ 352 }
+        ensures lanes { length self.now.held.state ≡ 352 → map (lane 0) self.now.outputs ≡ self.now.held.state }
         ensures shares { HasShares N 80 (length self.now.held.state) self.now.held }
     {
-        self.chain.state()
+        let state = self.chain.state();
+        if state.len() == 352 {
+            state
+        } else {
+            &self.blank
+        }
     }
 
     /// Encrypts a piece of a message: one to eight bytes, filled up with zeros, behind so many others. Where there are no others
