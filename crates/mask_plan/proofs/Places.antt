@@ -31,7 +31,7 @@ bits_stand (Lea size iv) = λ byte p lt small block is.
 bits_stand (Trivium iv) = λ byte p. refl
 
 -- a run of the task has the words of all bits that it hands out
-pub has_output_bits : (task : Task) (run : TaskRun) → IsBy (method_of task) run → HasOutputs run → length (outputs run) ≡ output_bits task
+pub has_output_bits : {N : ℕ} (task : Task) (run : TaskRun N) → IsBy N (method_of task) run → HasOutputs run → length (outputs run) ≡ output_bits task
 has_output_bits (Present size iv) (Counter run) by many = many ∙ ap (λ (m : Mode). 8 * m.block) by
 has_output_bits (Lea size iv) (Counter run) by many = many ∙ ap (λ (m : Mode). 8 * m.block) by
 has_output_bits (Trivium iv) (Stream run) by many = many

@@ -90,7 +90,7 @@ goes_on N (AsStream iv) run run' fed piece a b two ten on r same long all =
 goes_on N (InCounterMode m cipher) run run' fed piece a b two is on r same long all = absurd on
 
 -- the run is one by the method as long as its IV stays
-pub is_by : (N : ℕ) (method : Method) (run run' : Between) (fed : ℕ) → GoesOn N method fed (Stream run) → run'.iv ≡ run.iv → IsBy method (Stream run')
+pub is_by : (N : ℕ) (method : Method) (run run' : Between) (fed : ℕ) → GoesOn N method fed (Stream run) → run'.iv ≡ run.iv → IsBy N method (Stream run')
 is_by N (AsStream iv) run run' fed on same = same ∙ on.iv_is
 is_by N (InCounterMode m cipher) run run' fed on same = absurd on
 

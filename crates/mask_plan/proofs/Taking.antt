@@ -119,7 +119,7 @@ goes_on N (InCounterMode m cipher) run run' fed piece a b two is on r done all =
 goes_on N (AsStream iv) run run' fed piece a b two is on r done all = absurd on
 
 -- the run is one by the method as long as its mode stays
-pub is_by : (N : ℕ) (method : Method) (run run' : Between) (fed : ℕ) → GoesOn N method fed (Counter run) → mode run' ≡ mode run → IsBy method (Counter run')
+pub is_by : (N : ℕ) (method : Method) (run run' : Between) (fed : ℕ) → GoesOn N method fed (Counter run) → mode run' ≡ mode run → IsBy N method (Counter run')
 is_by N (InCounterMode m cipher) run run' fed on same = same ∙ on.in_mode
 is_by N (AsStream iv) run run' fed on same = absurd on
 
@@ -176,9 +176,9 @@ unfolding steps_from
 no_steps m i piece some none =
     ap (λ (n : ℕ). steps_from m i (each (block_at m.block piece) n)) (none_counted m.block (length piece) some (ap length none))
 
-pub took_none : (N : ℕ) (method : Method) (place : ℕ → ℕ → ℕ) (run : TaskRun) (fed : ℕ) (last : Bool) (a : Stand) → IsSound method → GoesOn N method fed run →
+pub took_none : (N : ℕ) (method : Method) (place : ℕ → ℕ → ℕ) (run : TaskRun N) (fed : ℕ) (last : Bool) (a : Stand) → IsSound method → GoesOn N method fed run →
     length a.kept < 8 → Took N method place fed [] last run run a a
-unfolding ciphertext_from
+unfolding ciphertext_from value_after
 took_none N (InCounterMode m cipher) place (Counter run) fed last a is on few =
     let none = no_steps m (block_count m.block fed) [] is.circuits.some refl in
     record {
@@ -195,7 +195,7 @@ took_none N (InCounterMode m cipher) place (Stream run) fed last a is on few = a
 took_none N (AsStream iv) place (Counter run) fed last a is on few = absurd on
 
 -- a run goes on from its beginning
-pub begins : (N : ℕ) (method : Method) (shares : List BitShares) (run : TaskRun) → IsSound method → Begin method shares run →
+pub begins : (N : ℕ) (method : Method) (shares : List BitShares) (run : TaskRun N) → IsSound method → Begin method shares run →
     HasShares N (key_width method) 0 (record { key = shares; state = [] }) → GoesOn N method 0 run
 begins N (InCounterMode m cipher) shares (Counter run) is begin has = record {
   in_mode = begin.in_mode;
@@ -212,14 +212,14 @@ begins N (AsStream iv) shares (Stream run) is begin has = record {
 begins N (InCounterMode m cipher) shares (Stream run) is begin has = absurd begin
 begins N (AsStream iv) shares (Counter run) is begin has = absurd begin
 
-pub begins_by : (method : Method) (shares : List BitShares) (run : TaskRun) → Begin method shares run → IsBy method run
+pub begins_by : {N : ℕ} (method : Method) (shares : List BitShares) (run : TaskRun N) → Begin method shares run → IsBy N method run
 begins_by (InCounterMode m cipher) shares (Counter run) begin = begin.in_mode
 begins_by (AsStream iv) shares (Stream run) begin = begin.iv_is
 begins_by (InCounterMode m cipher) shares (Stream run) begin = absurd begin
 begins_by (AsStream iv) shares (Counter run) begin = absurd begin
 
 -- why a call was refused in which the tape failed, or memory
-pub refuses : (N : ℕ) (task : Task) (run : TaskRun) (fed written : ℕ) (closed : Option Stop) (ended : Bool) (piece : List ℕ) (last : Bool)
+pub refuses : (N : ℕ) (task : Task) (run : TaskRun N) (fed written : ℕ) (closed : Option Stop) (ended : Bool) (piece : List ℕ) (last : Bool)
     (wanted counted counted' : ℕ) (a b : Stand) (error : TapeError) →
     (error ≡ tape_error.Failed → Stopped N (method_of task) fed piece last run wanted counted counted' a b) →
     (error ≡ tape_error.NoMemory → (b ≡ a) × (counted' ≡ counted)) →

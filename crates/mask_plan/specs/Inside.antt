@@ -24,21 +24,21 @@ use Rattle.mask_plan.specs.declared.session.Stop.{Stop}
 use Rattle.mask_plan.specs.Sessions.{Progress}
 
 -- what a run has in shares, and the words of its latest outputs
-abbrev pub held : TaskRun → Registers BitShares
+abbrev pub held : {N : ℕ} → TaskRun N → Registers BitShares
 held (Counter run) = have run
 held (Stream run) = run.held
 
-abbrev pub outputs : TaskRun → List (List ℕ)
+abbrev pub outputs : {N : ℕ} → TaskRun N → List (List ℕ)
 outputs (Counter run) = run.outputs
 outputs (Stream run) = run.outputs
 
 -- as many as a block has bits, or a step of Trivium outputs
-abbrev pub HasOutputs : TaskRun → Type 0
+abbrev pub HasOutputs : {N : ℕ} → TaskRun N → Type 0
 HasOutputs (Counter run) = length run.outputs ≡ 8 * run.block
 HasOutputs (Stream run) = length run.outputs ≡ 352
 
 -- how a session stands whose parts these are
-abbrev pub progress : Task → TaskRun → ℕ → Option Stop → Bool → ℕ → Progress
+abbrev pub progress : {N : ℕ} → Task → TaskRun N → ℕ → Option Stop → Bool → ℕ → Progress
 progress task run fed closed ended written = record {
   task = task;
   held = held run;
@@ -61,16 +61,16 @@ pub record BeginsStream (iv : List ℕ) (shares : List BitShares) (run : stream.
   pub held_is : run.held ≡ record { key = shares; state = [] }
 
 -- a run by this method, with these shares of the key, ahead of the message
-abbrev pub Begin : methods.Method → List BitShares → TaskRun → Type 0
+abbrev pub Begin : {N : ℕ} → methods.Method → List BitShares → TaskRun N → Type 0
 Begin (methods.InCounterMode m cipher) shares (Counter run) = BeginsRun m shares run
 Begin (methods.AsStream iv) shares (Stream run) = BeginsStream iv shares run
 Begin method shares run = ⊥
 
 -- A run by this method, which may be over.
-abbrev pub IsBy : methods.Method → TaskRun → Type 0
-IsBy (methods.InCounterMode m cipher) (Counter run) = mode run ≡ m
-IsBy (methods.AsStream iv) (Stream run) = run.iv ≡ iv
-IsBy method run = ⊥
+abbrev pub IsBy : (N : ℕ) → methods.Method → TaskRun N → Type 0
+IsBy N (methods.InCounterMode m cipher) (Counter run) = mode run ≡ m
+IsBy N (methods.AsStream iv) (Stream run) = run.iv ≡ iv
+IsBy N method run = ⊥
 
 -- It took so many bytes of a message, whole batches, and goes on: the key is there, in N shares of each bit.
 pub record AreEncrypted (N : ℕ) (m : Mode) (fed : ℕ) (run : Between) : Type 0 where
@@ -86,7 +86,7 @@ pub record AreStreamed (N : ℕ) (iv : List ℕ) (fed : ℕ) (run : stream.Betwe
   pub has_key : HasShares N 80 (length run.held.state) run.held
   pub state : 0 < fed → length run.held.state ≡ 352
 
-abbrev pub GoesOn : ℕ → methods.Method → ℕ → TaskRun → Type 0
+abbrev pub GoesOn : (N : ℕ) → methods.Method → ℕ → TaskRun N → Type 0
 GoesOn N (methods.InCounterMode m cipher) fed (Counter run) = AreEncrypted N m fed run
 GoesOn N (methods.AsStream iv) fed (Stream run) = AreStreamed N iv fed run
 GoesOn N method fed run = ⊥
@@ -94,7 +94,7 @@ GoesOn N method fed run = ⊥
 -- Behind so many bytes these were taken, the last ones or not: all their steps were evaluated, and nothing else. What is held
 -- stands for what they compute, and what is handed out for what is written of them; `place` says where a block has a bit of a
 -- byte.
-pub record Took (N : ℕ) (method : methods.Method) (place : ℕ → ℕ → ℕ) (fed : ℕ) (piece : List ℕ) (last : Bool) (run run' : TaskRun) (a b : Stand) : Type 0 where
+pub record Took (N : ℕ) (method : methods.Method) (place : ℕ → ℕ → ℕ) (fed : ℕ) (piece : List ℕ) (last : Bool) (run run' : TaskRun N) (a b : Stand) : Type 0 where
   pub ran : Ran N (held run) (methods.next_steps method fed piece last) (held run') a b
   pub values : values_of (held run') ≡ value_after (values_of (held run)) (methods.next_steps method fed piece last)
   pub stand : (k p : ℕ) → k < length (methods.next_output method (values_of (held run)) fed piece last) → p < 8 →
@@ -103,7 +103,7 @@ pub record Took (N : ℕ) (method : methods.Method) (place : ℕ → ℕ → ℕ
 
 -- The tape failed behind the first of their steps, of those that come ahead of their own: it wants just the new bytes that the
 -- next ones need, at least one.
-pub record Stopped (N : ℕ) (method : methods.Method) (fed : ℕ) (piece : List ℕ) (last : Bool) (run : TaskRun) (wanted counted counted' : ℕ) (a b : Stand) : Type 0 where
+pub record Stopped (N : ℕ) (method : methods.Method) (fed : ℕ) (piece : List ℕ) (last : Bool) (run : TaskRun N) (wanted counted counted' : ℕ) (a b : Stand) : Type 0 where
   pub count : ℕ
   pub ran : RanPart N (held run) (methods.next_steps method fed piece last) count a b
   pub few : count ≤ length (methods.ahead method fed last)
@@ -116,8 +116,9 @@ pub record Stopped (N : ℕ) (method : methods.Method) (fed : ℕ) (piece : List
 
 -- The run is one of the task, of which no more than the longest message was taken. A session that is neither closed nor at its
 -- end goes on.
-pub record IsInOrder (N : ℕ) (task : Task) (fed : ℕ) (closed : Option Stop) (ended : Bool) (run : TaskRun) : Type 0 where
+pub record IsInOrder (N : ℕ) (task : Task) (fed : ℕ) (closed : Option Stop) (ended : Bool) (run : TaskRun N) : Type 0 where
   pub some : 2 ≤ N
+  pub few : N ≤ 8
   pub within : fed ≤ longest_message task
-  pub by : IsBy (method_of task) run
+  pub by : IsBy N (method_of task) run
   pub goes_on : closed ≡ None → ended ≡ false → GoesOn N (method_of task) fed run

@@ -46,7 +46,7 @@ pub(crate) fn take_piece<const N: usize, E: Entropy, W: Watch, L: Ledger>(
     ensures took { OnOk result (Took N (method_of task.now) (bit_place task.now) fed piece.now last run.old run.new
         (stand tape.old (E.left entropy.old) (W.told watch.old)) (stand tape.new (E.left entropy.new) (W.told watch.new))) }
     ensures goes_on { OnOk result (last ≡ false → GoesOn N (method_of task.now) (fed + length piece.now) run.new) }
-    ensures by { IsBy (method_of task.now) run.new }
+    ensures by { IsBy N (method_of task.now) run.new }
     ensures wants { OnOk result (E.wanted entropy.new ≡ E.wanted entropy.old) }
     ensures steps { OnOk result (steps.new ≡ steps.old + next_gates (method_of task.now) fed piece.now last) }
     ensures nothing { piece.now ≡ [] → (tape.new ≡ tape.old) × (entropy.new ≡ entropy.old) × (watch.new ≡ watch.old) }
@@ -97,7 +97,7 @@ fn take_batch<const N: usize, E: Entropy, W: Watch, L: Ledger>(
     ensures took { OnOk result (Took N (method_of task.now) (bit_place task.now) fed piece.now last (TaskRun.Counter run.old) (TaskRun.Counter run.new)
         (stand tape.old (E.left entropy.old) (W.told watch.old)) (stand tape.new (E.left entropy.new) (W.told watch.new))) }
     ensures goes_on { OnOk result (last ≡ false → GoesOn N (method_of task.now) (fed + length piece.now) (TaskRun.Counter run.new)) }
-    ensures by { IsBy (method_of task.now) (TaskRun.Counter run.new) }
+    ensures by { IsBy N (method_of task.now) (TaskRun.Counter run.new) }
     ensures wants { OnOk result (E.wanted entropy.new ≡ E.wanted entropy.old) }
     ensures steps { OnOk result (steps.new ≡ steps.old + next_gates (method_of task.now) fed piece.now last) }
     ensures stopped { IfErr result (λ e. e ≡ TapeError.Failed → Stopped N (method_of task.now) fed piece.now last (TaskRun.Counter run.old) (E.wanted entropy.new) steps.old steps.new
@@ -137,7 +137,7 @@ fn take_block<const N: usize, E: Entropy, W: Watch, L: Ledger>(
     ensures took { OnOk result (Took N (method_of task.now) (bit_place task.now) fed piece.now last (TaskRun.Stream run.old) (TaskRun.Stream run.new)
         (stand tape.old (E.left entropy.old) (W.told watch.old)) (stand tape.new (E.left entropy.new) (W.told watch.new))) }
     ensures goes_on { OnOk result (last ≡ false → GoesOn N (method_of task.now) (fed + length piece.now) (TaskRun.Stream run.new)) }
-    ensures by { IsBy (method_of task.now) (TaskRun.Stream run.new) }
+    ensures by { IsBy N (method_of task.now) (TaskRun.Stream run.new) }
     ensures wants { OnOk result (E.wanted entropy.new ≡ E.wanted entropy.old) }
     ensures steps { OnOk result (steps.new ≡ steps.old + next_gates (method_of task.now) fed piece.now last) }
     ensures stopped { IfErr result (λ e. e ≡ TapeError.Failed → Stopped N (method_of task.now) fed piece.now last (TaskRun.Stream run.old) (E.wanted entropy.new) steps.old steps.new

@@ -24,6 +24,7 @@ invariant_of-result g c =
     (c.lines_share_keys.ensures.has_key task c.args.key.now)) in
     record {
       some = c.requires.some;
+      few = c.requires.few;
       within = omega arith;
       by = begins_by method (key_shares task c.args.key.now) c.in_ok-run.run' begin;
       goes_on = λ o e. begins g.row.N method (key_shares task c.args.key.now) c.in_ok-run.run' (tasks_encipher task c.tasks_are_whole.ensures) begin lines;
