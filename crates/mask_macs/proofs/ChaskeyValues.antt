@@ -76,10 +76,6 @@ abbrev own_step : List ℕ → Bool → Step
 own_step piece false = block_step piece
 own_step piece true = end_step (end_of piece) piece
 
-next_is : (n : ℕ) (piece : List ℕ) (last : Bool) → next_steps n piece last ≡ ahead n ++ own_step piece last ∷ []
-next_is n piece false = refl
-next_is n piece true = refl
-
 -- what is held behind what goes ahead
 abbrev pub ready : Registers Bool → ℕ → Registers Bool
 ready held n = value_after held (ahead n)

@@ -11,6 +11,7 @@ pub mod LightMacRows
 pub mod LightMacTags
 pub mod LightMacValues
 pub mod Messages
+pub mod OwnSteps
 pub mod Pieces
 pub mod Plans
 pub mod Refreshes

@@ -3,9 +3,11 @@
 -- block, which may be shorter, takes the end, and the tag is read from what that leaves. The key has sixteen bytes.
 use Rattle.std.specs.Prelude.{ℕ, suc, ◌+◌, ◌-◌, ◌*◌, ◌/◌, Bool, true, false, ◌==◌, cond, List, [], ◌∷◌, ◌++◌, map, length, take, drop}
 use Rattle.mask_bits.specs.Reading.{low, number}
+use Rattle.mask_circuit.specs.Netlist.{Netlist}
 use Rattle.mask_circuit.specs.Wires.{each}
 use Rattle.mask_parts.specs.CipherCircuits.{gate_bits}
 use Rattle.mask_chaskey.specs.declared.doubling.End.{End}
+use Rattle.mask_chaskey.specs.declared.doubling.End.TheVariants.{Whole, Short}
 use Rattle.mask_chaskey.specs.Chaskey.{blocks_before, bytes_of, end_of, finished, last_bytes, number_of, padded}
 use Rattle.mask_chaskey.specs.NamedChaskey.{named_end, named_step}
 use Rattle.mask_refresh.specs.Refreshing.{refreshing}
@@ -56,6 +58,10 @@ next_steps n piece true = ahead n ++ end_step (end_of piece) piece ∷ []
 abbrev pub chaskey_plan : List ℕ → List Step
 chaskey_plan message =
     start_step ∷ (block_steps message (blocks_before message) ++ end_step (end_of message) (last_bytes message) ∷ [])
+
+-- the circuits of all steps
+abbrev pub circuits : List Netlist
+circuits = refreshing 128 ∷ named_step ∷ named_end Whole ∷ named_end Short ∷ []
 
 -- WHAT THEY MAKE
 

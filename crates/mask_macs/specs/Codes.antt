@@ -1,5 +1,6 @@
 -- A message authentication code as it is run: piece by piece, behind each of which but the last more of the message comes.
 use Rattle.std.specs.Prelude.{◌≡◌, ℕ, ◌+◌, ◌-◌, ◌*◌, ◌%◌, ◌<◌, ◌≤◌, Bool, true, false, List, length}
+use Rattle.mask_circuit.specs.Netlist.{Netlist}
 use Rattle.mask_tasks.specs.declared.sizes.KeySize.{KeySize}
 use Rattle.mask_tasks.specs.Sizes.{present_bytes}
 use Rattle.mask_trace.specs.Steps.{Registers, Step}
@@ -25,6 +26,10 @@ pub record Code : Type 0 where
   pub plan : List ℕ → List Step
   pub fed : List ℕ → List Step
   pub next : ℕ → List ℕ → Bool → List Step
+  -- what goes ahead of the next piece's own step
+  pub ahead : ℕ → Bool → List Step
+  -- the circuits of all steps
+  pub circuits : List Netlist
   -- what is handed out of the next piece
   pub output : Registers Bool → ℕ → List ℕ → Bool → List ℕ
   -- where byte k of the tag begins in what the last step leaves
@@ -44,6 +49,8 @@ chaskey_code tag_bytes = record {
   plan = chaskey.chaskey_plan;
   fed = chaskey.fed_steps;
   next = chaskey.next_steps;
+  ahead = λ n last. chaskey.ahead n;
+  circuits = chaskey.circuits;
   output = chaskey.next_output tag_bytes;
   place = λ k. 8 * k;
   drawn = chaskey.chaskey_bits;
@@ -65,6 +72,8 @@ lightmac_code size s tag_bytes = record {
   plan = light.lightmac_plan size s;
   fed = light.fed_steps size s;
   next = light.next_steps size s;
+  ahead = light.ahead size;
+  circuits = light.circuits size;
   output = light.next_output size tag_bytes;
   place = λ k. 8 * (7 - k);
   drawn = light.lightmac_bits size s;

@@ -1,7 +1,7 @@
 -- What is proved of the runs of a code.
-use Rattle.std.specs.Prelude.{◌≡◌, ℕ, suc, ◌+◌, ◌*◌, ◌<◌, ◌≤◌, Bool, true, false, List, [], ◌++◌, length, take, slice_index, slice_index_or}
+use Rattle.std.specs.Prelude.{◌≡◌, ℕ, suc, ◌+◌, ◌*◌, ◌<◌, ◌≤◌, Bool, true, false, List, [], ◌∷◌, ◌++◌, length, map, take, slice_index, slice_index_or}
 use Rattle.mask_bits.specs.Reading.{bit, AreBytes}
-use Rattle.mask_trace.specs.Steps.{Registers, IsStrongPlan, bits_of}
+use Rattle.mask_trace.specs.Steps.{Registers, Step, IsStrongPlan, bits_of}
 use Rattle.mask_trace.specs.Privacy.{AreAlike, IsPrivateTrace, trace_hits}
 use Rattle.mask_trace.specs.Laws.{IsRun}
 use Rattle.mask_trace.specs.Values.{value_after}
@@ -14,6 +14,12 @@ pub record PlansSplit (code : Code) : Type 0 where
       code.fed (front ++ piece) ≡ code.fed front ++ code.next (length front) piece false
   pub ends : (front piece : List ℕ) → ArePieces code (length front) → IsNext code (length front) piece true →
       code.plan (front ++ piece) ≡ code.fed front ++ code.next (length front) piece true
+
+-- The steps of the next piece are what goes ahead and one of its own. Their circuits depend on the length of the piece alone.
+pub record PiecesAreSteps (code : Code) : Type 0 where
+  pub begins : (n : ℕ) (piece : List ℕ) (last : Bool) → (own : Step) × (code.next n piece last ≡ code.ahead n last ++ own ∷ [])
+  pub circuits : (n : ℕ) (piece other : List ℕ) (last : Bool) → length piece ≡ length other →
+      map (λ (s : Step). s.circuit) (code.next n piece last) ≡ map (λ (s : Step). s.circuit) (code.next n other last)
 
 -- the bits of the key
 abbrev pub key_bits : Code → ℕ

@@ -5,6 +5,7 @@
 -- The key is K1 and then K2. A counter has s bytes, and a piece 8 - s. Bytes are read high first.
 use Rattle.std.specs.Prelude.{ℕ, suc, ◌+◌, ◌-◌, ◌*◌, ◌/◌, Bool, true, false, ◌==◌, cond, List, [], ◌∷◌, ◌++◌, map, length, take, drop, replicate}
 use Rattle.mask_bits.specs.Reading.{high, number}
+use Rattle.mask_circuit.specs.Netlist.{Netlist}
 use Rattle.mask_circuit.specs.Wires.{each, joined}
 use Rattle.mask_parts.specs.CipherCircuits.{gate_bits}
 use Rattle.mask_tasks.specs.declared.sizes.KeySize.{KeySize}
@@ -76,6 +77,10 @@ abbrev pub lightmac_plan : KeySize → ℕ → List ℕ → List Step
 lightmac_plan size s message =
     let n = pieces_before s message in
     piece_steps size s message n ++ end_step size ((8 - s) * n) (last_piece s message) ∷ []
+
+-- the circuits of all steps
+abbrev pub circuits : KeySize → List Netlist
+circuits size = refreshing (key_width size) ∷ named_step size ∷ named_end size ∷ []
 
 -- WHAT THEY MAKE
 

@@ -2,12 +2,18 @@
 ghost use Rattle.std.specs.Prelude.{ℕ, ◌≤◌};
 ghost use Rattle.mask_tasks.specs.declared.sizes.KeySize.{KeySize};
 ghost use Rattle.mask_macs.specs.Codes.{IsCounterLength, chaskey_code, lightmac_code};
-ghost use Rattle.mask_macs.specs.Laws.{OutputFits, OutputGoesOn, OutputsAreBits, PlansAreStrong, PlansSplit, RegistersGoOn, RunBits, RunsArePrivate};
+ghost use Rattle.mask_macs.specs.Laws.{OutputFits, OutputGoesOn, OutputsAreBits, PiecesAreSteps, PlansAreStrong, PlansSplit, RegistersGoOn, RunBits, RunsArePrivate};
 
 /// The steps of a message split behind any whole pieces.
 pub fn plans_split()
     ensures chaskey { (tag : ℕ) → PlansSplit (chaskey_code tag) }
     ensures lightmac { (size : KeySize) (s tag : ℕ) → IsCounterLength s → PlansSplit (lightmac_code size s tag) }
+{}
+
+/// The steps of the next piece are what goes ahead and one of its own, of circuits that its length tells.
+pub fn pieces_are_steps()
+    ensures chaskey { (tag : ℕ) → PiecesAreSteps (chaskey_code tag) }
+    ensures lightmac { (size : KeySize) (s tag : ℕ) → PiecesAreSteps (lightmac_code size s tag) }
 {}
 
 /// The steps of a message are a strong plan, and depend on the message in its bits alone.
