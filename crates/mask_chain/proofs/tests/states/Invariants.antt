@@ -1,4 +1,4 @@
 use Rattle.mask_chain.proofs.tests.states.Given as goal
 
-abbrev pub ghosts-state_of_one : goal.ghosts-state_of_one
-ghosts-state_of_one a = record { name = a.blank.name; parts = a.blank.parts }
+abbrev pub ghosts-states_of : goal.ghosts-states_of
+ghosts-states_of a = record { name = a.blank.name; parts = a.blank.parts }
