@@ -5,3 +5,6 @@ mod streaming;
 mod words;
 
 pub use streaming::StreamRun;
+
+#[cfg(test)]
+mod tests;
