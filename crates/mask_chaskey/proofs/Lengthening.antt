@@ -1,5 +1,5 @@
 -- What the parts do to any draft: it grows, by so many values.
-use Rattle.std.proofs.Common.{ℕ, ◌-◌, List}
+use Rattle.std.proofs.Common.{ℕ, List}
 use Rattle.std.specs.List.{concat}
 use Rattle.mask_circuit.specs.Netlist.{value_count}
 use Rattle.mask_parts.specs.Drafts.{Grows}

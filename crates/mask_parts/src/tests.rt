@@ -28,6 +28,25 @@ fn lays_a_product(rt: HostRuntime) -> Result<(), Fail> {
 }
 
 #[test]
+fn lays_a_row_of_xors(rt: HostRuntime) -> Result<(), Fail> {
+    let mut builder = Builder::new(rt.alloc(), 4)?;
+    if builder.values() == 4 {
+        xor_all(&mut builder, &[0, 1], &[3, 2])?;
+    }
+    let circuit = builder.finish();
+    assert!(rt; circuit.gates() == [Gate::Xor(0, 3), Gate::Xor(1, 2)].as_slice());
+    Ok(())
+}
+
+#[test]
+fn numbers_places(rt: HostRuntime) -> Result<(), Fail> {
+    let mut places = [0; 3];
+    number_from(&mut places, 5);
+    assert!(rt; places == [5, 6, 7]);
+    Ok(())
+}
+
+#[test]
 fn lays_a_fence(rt: HostRuntime) -> Result<(), Fail> {
     let mut builder = Builder::new(rt.alloc(), 2)?;
     if builder.values() == 2 {

@@ -1,5 +1,5 @@
 -- The named circuits are strong, of their size, and compute Trivium.
-use Rattle.std.proofs.Common.{◌≡◌, ℕ, ◌+◌, ◌*◌, ◌≤◌, Bool, false, true, List, ◌++◌, length, take, drop, All, refl, sym, ap, ap₂, ◌∙◌, arith, lit≤, length-append}
+use Rattle.std.proofs.Common.{◌≡◌, ℕ, ◌+◌, ◌*◌, Bool, false, true, List, ◌++◌, length, take, drop, All, refl, sym, ap, ap₂, ◌∙◌, arith, lit≤, length-append}
 use Rattle.std.specs.List.{range_with_len}
 use Rattle.std.proofs.lemmas.List.{length-drop, map-append, take_all}
 use Rattle.std.proofs.lemmas.List.FromFn.{length-range_with_len}

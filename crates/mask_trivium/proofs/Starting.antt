@@ -1,5 +1,5 @@
 -- The stages that the clocks begin with: they are whole, and their values are the input bits.
-use Rattle.std.proofs.Common.{◌≤◌, [], ◌∷◌, refl, arith, lit≤}
+use Rattle.std.proofs.Common.{[], ◌∷◌, refl, arith, lit≤}
 use Rattle.std.specs.List.{range_with_len}
 use Rattle.std.proofs.lemmas.List.Elements.{All-nil}
 use Rattle.mask_circuit.specs.declared.gates.Gate.TheVariants.{Zero, One}
