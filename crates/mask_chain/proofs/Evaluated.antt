@@ -5,13 +5,13 @@ use Rattle.std.proofs.Math.Numerals.{sub-one}
 use Rattle.mask_bits.specs.Reading.{bit}
 use Rattle.mask_bits.specs.Lanes.{lane}
 use Rattle.mask_circuit.specs.Netlist.{Netlist}
-use Rattle.mask_circuit.specs.Ring.{bits, words}
+use Rattle.mask_circuit.specs.Ring.{words}
 use Rattle.mask_circuit.specs.Expansion.{draws}
 use Rattle.mask_circuit.specs.Sharing.{all_shared}
 use Rattle.mask_eval.specs.Watching.{Told}
 use Rattle.mask_eval.specs.Evaluated.{EvaluatesInLanes, coin_count, inputs_of}
 use Rattle.mask_eval.proofs.Shared.{all_shared_in_lane}
-use Rattle.mask_trace.specs.Steps.{InputBit, Plain, Registers, Step, kept, plain_bits, sharing_bits, stretch}
+use Rattle.mask_trace.specs.Steps.{Plain, kept, plain_bits, sharing_bits, stretch}
 use Rattle.mask_trace.specs.Traces.{BitShares, input_shares}
 use Rattle.mask_trace.specs.Drawing.{Ran, stand}
 use Rattle.mask_trace.specs.Lanes.{RanInLanes}

@@ -5,14 +5,13 @@ use Rattle.std.proofs.lemmas.List.{take-append-drop}
 use Rattle.std.proofs.lemmas.List.Sums.{sum_by-append, sum_by-cons}
 use Rattle.std.proofs.Math.Nat.{div-add-mod, div_self, mul-le-mul_right}
 use Rattle.mask_circuit.proofs.Places.{length-each}
-use Rattle.mask_tasks.specs.declared.tasks.Task.{Task}
 use Rattle.mask_trivium.specs.NamedTrivium.{named_start, named_step}
 use Rattle.mask_streams.specs.Streams.{block_steps, steps_behind, stream_step}
 use Rattle.mask_streams.specs.Streams.{ahead as ahead_of_stream}
 use Rattle.mask_streams.proofs.Plans.{block_steps-map, none_ahead, steps_of_some}
 use Rattle.mask_trace.specs.Steps.{Step}
 use Rattle.mask_modes.specs.CounterMode.{block_count}
-use Rattle.mask_modes.specs.Steps.{Mode, Cipher, ahead_of, block_at, blocks, is_due, refresh_step}
+use Rattle.mask_modes.specs.Steps.{Mode, ahead_of, block_at, blocks, is_due, refresh_step}
 use Rattle.mask_modes.proofs.BlockCounts.{block_count-add, block_count-whole, block_count_grows}
 use Rattle.mask_ciphers.specs.Methods.{Method, InCounterMode, AsStream, AreBatches, MayEnd, ahead, batch, batch_gates, fed_gates, gates_of, gates_of_batches, next_gates, run_gates, stream_gates}
 use Rattle.mask_ciphers.specs.Tasks.{method_of}

@@ -1,7 +1,7 @@
 -- How a message is taken piece by piece: the steps of a piece, and what is written of it.
 --
 -- A piece is a batch, or the last bytes of the message. Behind n bytes, which are whole batches, it comes next.
-use Rattle.std.specs.Prelude.{◌≡◌, ℕ, zero, suc, ◌+◌, ◌-◌, ◌*◌, ◌%◌, ◌≤◌, Bool, cond, List, [], ◌∷◌, length, sum_by}
+use Rattle.std.specs.Prelude.{◌≡◌, ℕ, zero, suc, ◌+◌, ◌-◌, ◌*◌, ◌%◌, Bool, cond, List, [], length, sum_by}
 use Rattle.mask_check.specs.Costs.{most_steps}
 use Rattle.mask_trace.specs.Steps.{Registers, Step}
 use Rattle.mask_trivium.specs.NamedTrivium.{named_start, named_step}

@@ -1,4 +1,4 @@
-use Rattle.std.proofs.Common.{length, map, subst, ap, sym, ◌∙◌}
+use Rattle.std.proofs.Common.{length, subst}
 use Rattle.mask_trace.specs.Values.{HasShares}
 use Rattle.mask_chain.specs.Chains.{Chain, have}
 use Rattle.mask_chain.proofs.Registers.{has_shares}

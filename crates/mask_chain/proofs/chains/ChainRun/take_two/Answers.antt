@@ -1,4 +1,4 @@
-use Rattle.std.proofs.Common.{◌≡◌, ℕ, ◌-◌, ◌*◌, ◌≤◌, [], ◌∷◌, length, refl, ap, ap₂, sym, subst, ◌∙◌, arith}
+use Rattle.std.proofs.Common.{ℕ, ◌-◌, [], ◌∷◌, length, refl, ap, sym, subst, ◌∙◌, arith}
 use Rattle.mask_eval.specs.Watching.{awaited}
 use Rattle.mask_trace.specs.Drawing.{Stand, Ran, stand}
 use Rattle.mask_trace.proofs.Drawing.{draws_join, runs_join, same_stand}
