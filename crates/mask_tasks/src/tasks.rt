@@ -5,7 +5,8 @@ ghost use Rattle.mask_tasks.specs.Tasks.{IsTask, key_bytes, longest_message};
 
 use crate::sizes::{KeySize, LeaSize};
 
-/// A cipher, and its IV. Block ciphers are used in counter mode, and their IV is the big-endian number of its bytes.
+/// A cipher and its IV, or a message authentication code and its sizes in bytes. Block ciphers are used in counter mode, and their
+/// IV is the big-endian number of its bytes.
 #[derive(Clone, Copy, Debug, PartialEq, Eq)]
 pub enum Task {
     /// PRESENT (ISO/IEC 29192-2)
@@ -14,6 +15,11 @@ pub enum Task {
     Lea { size: LeaSize, iv: u128 },
     /// Trivium (ISO/IEC 29192-3)
     Trivium { iv: [u8; 10] },
+    /// LightMAC over PRESENT (ISO/IEC 29192-6), with a counter of 1, 2 or 4 bytes, and a tag of 4 or 8. Other numbers stand for
+    /// the greatest.
+    LightMac { size: KeySize, counter: u32, tag: u32 },
+    /// Chaskey-12 (ISO/IEC 29192-6), with a tag of 8 or 16 bytes. Other numbers stand for the greatest.
+    Chaskey { tag: u32 },
 }
 
 /// The length of a key in bytes.
@@ -24,6 +30,8 @@ pub fn key_length(task: &Task) -> u32
         Task::Present { size, .. } => size.bytes(),
         Task::Lea { size, .. } => size.bytes(),
         Task::Trivium { .. } => 10,
+        Task::LightMac { size, .. } => 2 * size.bytes(),
+        Task::Chaskey { .. } => 16,
     }
 }
 
