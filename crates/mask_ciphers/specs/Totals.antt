@@ -5,9 +5,12 @@ use Rattle.mask_tasks.specs.declared.sizes.KeySize.TheVariants.{K80, K128}
 use Rattle.mask_tasks.specs.declared.sizes.LeaSize.{LeaSize}
 use Rattle.mask_tasks.specs.declared.sizes.LeaSize.TheVariants as lea_size
 use Rattle.mask_tasks.specs.declared.tasks.Task.{Task}
-use Rattle.mask_tasks.specs.declared.tasks.Task.TheVariants.{Present, Lea, Trivium}
+use Rattle.mask_tasks.specs.declared.tasks.Task.TheVariants.{Present, Lea, Trivium, LightMac, Chaskey}
 use Rattle.mask_parts.specs.CipherCircuits.{gate_bits}
 use Rattle.mask_streams.specs.Streams.{stream_bits}
+use Rattle.mask_tasks.specs.Limits.{counter_bytes}
+use Rattle.mask_macs.specs.LightMacRuns.{lightmac_bits}
+use Rattle.mask_macs.specs.ChaskeyRuns.{chaskey_bits}
 
 -- how many products and refreshes a block takes, and a refresh of the key
 abbrev pub present_gates : KeySize → ℕ
@@ -38,3 +41,5 @@ unfoldable pub total : Task → ℕ → ℕ → ℕ
 total (Present size iv) d n = counter_bits 64 (present_gates size) (present_key_gates size) d ((n + 7) / 8)
 total (Lea size iv) d n = counter_bits 128 (lea_gates size) (lea_key_gates size) d ((n + 15) / 16)
 total (Trivium iv) d n = stream_bits d ((n + 7) / 8)
+total (LightMac size counter tag) d n = lightmac_bits size (counter_bytes counter) d n
+total (Chaskey tag) d n = chaskey_bits d n
