@@ -1,12 +1,15 @@
 -- Whole batches of 64 blocks.
-use Rattle.std.proofs.Common.{◌≡◌, ℕ, ◌+◌, ◌-◌, ◌*◌, ◌/◌, ◌%◌, ◌<◌, ◌≤◌, sym, ap, ◌∙◌, arith}
+use Rattle.std.proofs.Common.{◌≡◌, ℕ, ◌+◌, ◌-◌, ◌*◌, ◌/◌, ◌%◌, ◌<◌, ◌≤◌, ◌⊎◌, inl, inr, List, length, subst, sym, ap, ◌∙◌, arith}
+use Rattle.std.proofs.lemmas.Bool.{cases_lt}
 use Rattle.std.proofs.Math.Nat.{div-add-mod, mul-add-div_right, le-mul_of_pos_right}
 use Rattle.mask_tasks.specs.declared.tasks.Task.{Task}
-use Rattle.mask_tasks.specs.declared.tasks.Task.TheVariants.{Present, Lea, Trivium}
+use Rattle.mask_tasks.specs.declared.tasks.Task.TheVariants.{Present, Lea, Trivium, LightMac, Chaskey}
 use Rattle.mask_tasks.specs.Tasks.{longest_message}
+use Rattle.mask_tasks.specs.Limits.{counter_bytes, longest_lightmac}
+use Rattle.mask_tasks.proofs.Limits.{counter_bytes-bounds, each_counter}
 use Rattle.mask_modes.specs.CounterMode.{block_count}
 use Rattle.mask_modes.proofs.BlockCounts.{block_count-add, block_count-whole, block_count_grows}
-use Rattle.mask_ciphers.specs.Methods.{Method, InCounterMode, AsStream, AreBatches, batch}
+use Rattle.mask_ciphers.specs.Methods.{Method, InCounterMode, AsStream, AsCode, AreBatches, IsCipher, MayEnd, batch}
 use Rattle.mask_ciphers.specs.Tasks.{method_of}
 
 -- so many bytes are 64 blocks of b bytes, n times
@@ -54,16 +57,34 @@ pub some_batch : (task : Task) → 0 < batch (method_of task)
 some_batch (Present size iv) = omega arith
 some_batch (Lea size iv) = omega arith
 some_batch (Trivium iv) = omega arith
+some_batch (LightMac size counter tag) = omega (arith, (counter_bytes-bounds counter).1)
+some_batch (Chaskey tag) = omega arith
 
--- in counter mode a block has some bytes
+-- in counter mode a block has some bytes, and of a code a piece
 abbrev pub HasBlocks : Method → Type 0
 HasBlocks (InCounterMode m cipher) = 0 < m.block
 HasBlocks (AsStream iv) = Unit {0}
+HasBlocks (AsCode code) = 0 < code.piece_bytes
 
 pub has_blocks : (task : Task) → HasBlocks (method_of task)
 has_blocks (Present size iv) = omega arith
 has_blocks (Lea size iv) = omega arith
 has_blocks (Trivium iv) = tt
+has_blocks (LightMac size counter tag) = omega (arith, (counter_bytes-bounds counter).1)
+has_blocks (Chaskey tag) = omega arith
+
+-- of LightMAC, with each length of a counter
+pieces_reach : (s limit n k : ℕ) → (s ≡ 1) ⊎ ((s ≡ 2) ⊎ (s ≡ 4)) → limit ≡ longest_lightmac s → n % (8 - s) ≡ 0 → n ≤ longest_lightmac s →
+    k ≤ 8 - s → limit < n + k → n ≡ limit
+pieces_reach s limit n k (inl one) is whole within few over =
+    subst (λ (s : ℕ). limit ≡ longest_lightmac s → n % (8 - s) ≡ 0 → n ≤ longest_lightmac s → k ≤ 8 - s → limit < n + k → n ≡ limit) (sym one)
+    (λ is whole within few over. omega arith) is whole within few over
+pieces_reach s limit n k (inr (inl two)) is whole within few over =
+    subst (λ (s : ℕ). limit ≡ longest_lightmac s → n % (8 - s) ≡ 0 → n ≤ longest_lightmac s → k ≤ 8 - s → limit < n + k → n ≡ limit) (sym two)
+    (λ is whole within few over. omega arith) is whole within few over
+pieces_reach s limit n k (inr (inr four)) is whole within few over =
+    subst (λ (s : ℕ). limit ≡ longest_lightmac s → n % (8 - s) ≡ 0 → n ≤ longest_lightmac s → k ≤ 8 - s → limit < n + k → n ≡ limit) (sym four)
+    (λ is whole within few over. omega arith) is whole within few over
 
 -- The longest message is whole batches: where more bytes pass it, whole batches have reached it.
 pub batches_reach : (task : Task) (limit n k : ℕ) → limit ≡ longest_message task → AreBatches (method_of task) n → n ≤ longest_message task →
@@ -71,3 +92,30 @@ pub batches_reach : (task : Task) (limit n k : ℕ) → limit ≡ longest_messag
 batches_reach (Present size iv) limit n k is whole within few over = omega arith
 batches_reach (Lea size iv) limit n k is whole within few over = omega arith
 batches_reach (Trivium iv) limit n k is whole within few over = omega arith
+batches_reach (LightMac size counter tag) limit n k is whole within few over = pieces_reach (counter_bytes counter) limit n k (each_counter counter) is whole within few over
+batches_reach (Chaskey tag) limit n k is whole within few over = omega arith
+
+-- whole pieces that reach the longest message with one more fill it
+pub pieces_fill : (task : Task) (limit n k : ℕ) → limit ≡ longest_message task → AreBatches (method_of task) n → k ≡ batch (method_of task) → n < limit → limit ≤ n + k →
+    n + k ≡ limit
+pieces_fill task limit n k is whole all room reached = go (cases_lt limit (n + k))
+  where
+    go : (limit < n + k) ⊎ (n + k ≤ limit) → n + k ≡ limit
+    go (inl over) = let at : n ≡ limit = batches_reach task limit n k is whole (omega arith) (omega arith) over in absurd (omega arith)
+    go (inr within) = omega arith
+
+-- a message may end with a batch or less, of some bytes where it began
+pub may_end : (task : Task) (n : ℕ) (piece : List ℕ) → length piece ≤ batch (method_of task) → (0 < n → 0 < length piece) → MayEnd (method_of task) n piece
+may_end (Present size iv) n piece few some = tt
+may_end (Lea size iv) n piece few some = tt
+may_end (Trivium iv) n piece few some = tt
+may_end (LightMac size counter tag) n piece few some = (few, some)
+may_end (Chaskey tag) n piece few some = (few, some)
+
+-- a task writes a ciphertext or a tag
+pub cipher_or_tag : (task : Task) → IsCipher (method_of task) ⊎ (IsCipher (method_of task) → ⊥)
+cipher_or_tag (Present size iv) = inl tt
+cipher_or_tag (Lea size iv) = inl tt
+cipher_or_tag (Trivium iv) = inl tt
+cipher_or_tag (LightMac size counter tag) = inr (λ is. is)
+cipher_or_tag (Chaskey tag) = inr (λ is. is)

@@ -8,7 +8,7 @@ use Rattle.mask_modes.specs.Steps.{blocks}
 use Rattle.mask_modes.proofs.Blocks.{blocks_are_long}
 use Rattle.mask_modes.proofs.Plans.{steps_are_strong}
 use Rattle.mask_streams.proofs.Plans.{plans_are_strong as stream_plans}
-use Rattle.mask_ciphers.specs.Methods.{Method, InCounterMode, AsStream, key_width}
+use Rattle.mask_ciphers.specs.Methods.{Method, InCounterMode, AsStream, AsCode, key_width}
 use Rattle.mask_ciphers.specs.Methods as methods
 use Rattle.mask_ciphers.specs.Tasks.{method_of, plan}
 use Rattle.mask_ciphers.specs.Laws.{IsSound, PlansAreStrong, RunsArePrivate}
@@ -19,6 +19,7 @@ plan_by_method : (method : Method) (message : List ℕ) → IsSound method → I
 plan_by_method (InCounterMode m cipher) message is =
     steps_are_strong.strong m cipher 0 (blocks m.block message) is (blocks_are_long m.block message)
 plan_by_method (AsStream iv) message is = stream_plans.strong iv message is
+plan_by_method (AsCode code) message is = is.strong.strong message
 
 pub plans_are_strong : PlansAreStrong
 plans_are_strong task is message =

@@ -5,7 +5,7 @@ use Rattle.mask_tasks.specs.declared.sizes.KeySize.{KeySize}
 use Rattle.mask_tasks.specs.declared.sizes.KeySize.TheVariants.{K80, K128}
 use Rattle.mask_tasks.specs.declared.sizes.LeaSize.{LeaSize}
 use Rattle.mask_tasks.specs.declared.sizes.LeaSize.TheVariants as lea_size
-use Rattle.mask_tasks.specs.declared.tasks.Task.TheVariants.{Present, Lea, Trivium}
+use Rattle.mask_tasks.specs.declared.tasks.Task.TheVariants.{Present, Lea, Trivium, LightMac, Chaskey}
 use Rattle.mask_tasks.specs.Sizes.{present_bytes, lea_bytes}
 use Rattle.mask_parts.specs.CipherCircuits.{gate_bits}
 use Rattle.mask_parts.proofs.Drawing.{draws-gates}
@@ -24,6 +24,8 @@ use Rattle.mask_ciphers.specs.Totals.{present_gates, present_key_gates, lea_gate
 use Rattle.mask_ciphers.specs.Laws.{RunsDrawTotals}
 use Rattle.mask_streams.proofs.TapeBits.{run_bits as stream_bits}
 use Rattle.mask_ciphers.proofs.Enciphering.{tasks_encipher}
+use Rattle.mask_tasks.specs.Limits.{chaskey_tag}
+use Rattle.mask_ciphers.proofs.Tagging.{chaskey_makes, lightmac_makes}
 
 draws-refreshing : (n d : ℕ) → draws (refreshing n) (suc d) ≡ n * gate_bits d
 draws-refreshing n d = draws-gates (refreshing n) _ d n (size-refreshing n) (omega arith)
@@ -69,3 +71,5 @@ runs_draw_totals (Lea size iv) d message =
     run_draws (lea_mode size iv) (lea_cipher size) (lea_gates size) (lea_key_gates size) d message (tasks_encipher (Lea size iv) tt)
     (draws-lea size d) (draws-lea_key size d)
 runs_draw_totals (Trivium iv) d message = stream_bits d iv message
+runs_draw_totals (LightMac size counter tag) d message = (lightmac_makes size counter tag).draws d message
+runs_draw_totals (Chaskey tag) d message = (chaskey_makes (chaskey_tag tag)).draws d message

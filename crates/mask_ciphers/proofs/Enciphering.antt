@@ -8,7 +8,7 @@ use Rattle.mask_tasks.specs.declared.sizes.KeySize.{KeySize}
 use Rattle.mask_tasks.specs.declared.sizes.KeySize.TheVariants.{K80, K128}
 use Rattle.mask_tasks.specs.declared.sizes.LeaSize.{LeaSize}
 use Rattle.mask_tasks.specs.declared.sizes.LeaSize.TheVariants as lea_size
-use Rattle.mask_tasks.specs.declared.tasks.Task.TheVariants.{Present, Lea, Trivium}
+use Rattle.mask_tasks.specs.declared.tasks.Task.TheVariants.{Present, Lea, Trivium, LightMac, Chaskey}
 use Rattle.mask_tasks.specs.Sizes.{present_bytes, lea_bytes}
 use Rattle.mask_parts.specs.CipherCircuits.{Size, size_of, IsCipherCircuit}
 use Rattle.mask_present.specs.Present.{register, present}
@@ -23,6 +23,8 @@ use Rattle.mask_modes.specs.Steps.{Mode, EnciphersNumbers}
 use Rattle.mask_modes.proofs.Numbers.{numbers_are_blocks}
 use Rattle.mask_ciphers.specs.Tasks.{present_mode, lea_mode}
 use Rattle.mask_ciphers.specs.Laws.{TasksEncipher}
+use Rattle.mask_tasks.specs.Limits.{chaskey_tag}
+use Rattle.mask_ciphers.proofs.Tagging.{chaskey_makes, lightmac_makes}
 
 -- PARTS OF AN INPUT
 
@@ -149,3 +151,5 @@ tasks_encipher (Present size iv) is =
     numbers_are_blocks.high_first (present_mode size iv) (λ key. present size (number key)) (present_enciphers size iv)
 tasks_encipher (Lea size iv) is = numbers_are_blocks.low_first (lea_mode size iv) (λ key. lea size (number key)) (lea_enciphers size iv)
 tasks_encipher (Trivium iv) is = is
+tasks_encipher (LightMac size counter tag) is = lightmac_makes size counter tag
+tasks_encipher (Chaskey tag) is = chaskey_makes (chaskey_tag tag)

@@ -13,10 +13,12 @@ use Rattle.mask_trace.specs.Steps.{Step}
 use Rattle.mask_modes.specs.CounterMode.{block_count}
 use Rattle.mask_modes.specs.Steps.{Mode, ahead_of, block_at, blocks, is_due, refresh_step}
 use Rattle.mask_modes.proofs.BlockCounts.{block_count-add, block_count-whole, block_count_grows}
-use Rattle.mask_ciphers.specs.Methods.{Method, InCounterMode, AsStream, AreBatches, MayEnd, ahead, batch, batch_gates, fed_gates, gates_of, gates_of_batches, next_gates, run_gates, stream_gates}
+use Rattle.mask_ciphers.specs.Methods.{Method, InCounterMode, AsStream, AsCode, AreBatches, IsCipher, MayEnd, ahead, batch, batch_gates, fed_gates, gates_of, gates_of_batches, next_gates, run_gates, stream_gates}
 use Rattle.mask_ciphers.specs.Tasks.{method_of}
 use Rattle.mask_ciphers.specs.Laws.{GatesGoOn}
 use Rattle.mask_ciphers.proofs.Batches.{HasBlocks, batches_of, blocks_of_batches, has_blocks, some_blocks}
+use Rattle.mask_ciphers.proofs.Tagging.{HasCode, gates_of-append, has_code}
+use Rattle.mask_ciphers.proofs.Tagging as tagging
 
 -- IN COUNTER MODE
 
@@ -111,9 +113,6 @@ gates_of_piece piece =
     ap gates_of (block_steps-map piece) ∙ gates_of_blocks (blocks 8 piece)
     ∙ ap (λ (n : ℕ). n * length named_step.gates) (length-each (block_at 8 piece) (block_count 8 (length piece)))
 
-gates_of-append : (ss ts : List Step) → gates_of (ss ++ ts) ≡ gates_of ss + gates_of ts
-gates_of-append ss ts = sum_by-append (λ (s : Step). length s.circuit.gates) ss ts
-
 -- the start is evaluated ahead of the first block alone
 start-once : (iv : List ℕ) (m k : ℕ) → 1 ≤ k → stream_gates (m + k) ≡ stream_gates m + (gates_of (ahead_of_stream iv (m * 8)) + k * length named_step.gates)
 start-once iv m zero some = absurd (omega arith)
@@ -163,39 +162,44 @@ stream-ahead iv n count piece some =
 
 -- BY EVERY METHOD
 
-fed_by : (method : Method) (n : ℕ) (piece : List ℕ) → HasBlocks method → AreBatches method n → length piece ≡ batch method →
+fed_by : (method : Method) (n : ℕ) (piece : List ℕ) → HasBlocks method → HasCode method → AreBatches method n → length piece ≡ batch method →
     fed_gates method (n + length piece) ≡ fed_gates method n + next_gates method n piece false
 unfolding fed_gates
-fed_by (InCounterMode m cipher) n piece some whole all = piece-more m some n piece whole (omega (arith, all))
-fed_by (AsStream iv) n piece some whole all = stream-more iv n piece whole
+fed_by (InCounterMode m cipher) n piece some is whole all = piece-more m some n piece whole (omega (arith, all))
+fed_by (AsStream iv) n piece some is whole all = stream-more iv n piece whole
+fed_by (AsCode code) n piece some is whole all = tagging.fed-more code is n piece whole all
 
-last_by : (method : Method) (n : ℕ) (piece : List ℕ) → HasBlocks method → AreBatches method n → length piece ≤ batch method → MayEnd method n piece →
+last_by : (method : Method) (n : ℕ) (piece : List ℕ) → HasBlocks method → HasCode method → AreBatches method n → length piece ≤ batch method → MayEnd method n piece →
     run_gates method (n + length piece) ≡ fed_gates method n + next_gates method n piece true
 unfolding run_gates fed_gates
-last_by (InCounterMode m cipher) n piece some whole few ends = piece-more m some n piece whole few
-last_by (AsStream iv) n piece some whole few ends = stream-more iv n piece whole
+last_by (InCounterMode m cipher) n piece some is whole few ends = piece-more m some n piece whole few
+last_by (AsStream iv) n piece some is whole few ends = stream-more iv n piece whole
+last_by (AsCode code) n piece some is whole few ends = tagging.last-more code is n piece whole ends
 
-fewer_by : (method : Method) (n : ℕ) → fed_gates method n ≤ run_gates method n
+fewer_by : (method : Method) → IsCipher method → (n : ℕ) → fed_gates method n ≤ run_gates method n
 unfolding run_gates fed_gates
-fewer_by (InCounterMode m cipher) n = omega arith
-fewer_by (AsStream iv) n = omega arith
+fewer_by (InCounterMode m cipher) is n = omega arith
+fewer_by (AsStream iv) is n = omega arith
+fewer_by (AsCode code) is n = absurd is
 
-grow_by : (method : Method) (n k : ℕ) → HasBlocks method → n ≤ k → run_gates method n ≤ run_gates method k
+grow_by : (method : Method) → IsCipher method → (n k : ℕ) → HasBlocks method → n ≤ k → run_gates method n ≤ run_gates method k
 unfolding run_gates
-grow_by (InCounterMode m cipher) n k some le = batches-grow m _ _ (block_count_grows (64 * m.block) n k (omega (arith, some)) le)
-grow_by (AsStream iv) n k some le = stream-grow (block_count 8 n) (block_count 8 k) (block_count_grows 8 n k (omega arith) le)
+grow_by (InCounterMode m cipher) is n k some le = batches-grow m _ _ (block_count_grows (64 * m.block) n k (omega (arith, some)) le)
+grow_by (AsStream iv) is n k some le = stream-grow (block_count 8 n) (block_count 8 k) (block_count_grows 8 n k (omega arith) le)
+grow_by (AsCode code) is n k some le = absurd is
 
-ahead_by : (method : Method) (n count : ℕ) (piece : List ℕ) (last : Bool) → 1 ≤ length piece → count ≤ length (ahead method n last) →
+ahead_by : (method : Method) → HasCode method → (n count : ℕ) (piece : List ℕ) (last : Bool) → (IsCipher method → 1 ≤ length piece) → count ≤ length (ahead method n last) →
     gates_of (take count (ahead method n last)) ≤ next_gates method n piece last
-ahead_by (InCounterMode m cipher) n count piece last some few =
-    omega (arith, refresh-gates m (block_count m.block n) count few, ahead-few m (block_count m.block n) count piece some few)
-ahead_by (AsStream iv) n count piece last some few = stream-ahead iv n count piece some
+ahead_by (InCounterMode m cipher) is n count piece last some few =
+    omega (arith, refresh-gates m (block_count m.block n) count few, ahead-few m (block_count m.block n) count piece (some tt) few)
+ahead_by (AsStream iv) is n count piece last some few = stream-ahead iv n count piece (some tt)
+ahead_by (AsCode code) is n count piece last some few = tagging.ahead-few code is n count piece last
 
 pub gates_go_on : GatesGoOn
 gates_go_on = record {
-  fed = λ task n piece whole all. fed_by (method_of task) n piece (has_blocks task) whole all;
-  last = λ task n piece whole few ends. last_by (method_of task) n piece (has_blocks task) whole few ends;
-  fewer = λ task n. fewer_by (method_of task) n;
-  grow = λ task n k le. grow_by (method_of task) n k (has_blocks task) le;
-  ahead = λ task n count piece last some few. ahead_by (method_of task) n count piece last some few;
+  fed = λ task n piece whole all. fed_by (method_of task) n piece (has_blocks task) (has_code task) whole all;
+  last = λ task n piece whole few ends. last_by (method_of task) n piece (has_blocks task) (has_code task) whole few ends;
+  fewer = λ task is n. fewer_by (method_of task) is n;
+  grow = λ task is n k le. grow_by (method_of task) is n k (has_blocks task) le;
+  ahead = λ task n count piece last some few. ahead_by (method_of task) (has_code task) n count piece last some few;
 }

@@ -7,5 +7,6 @@ pub mod Gates
 pub mod Joining
 pub mod KeyBits
 mod LeaExamples
+pub mod Tagging
 mod TaskExamples
 pub mod Writing

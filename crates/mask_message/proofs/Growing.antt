@@ -17,7 +17,7 @@ use Rattle.mask_ciphers.specs.Laws.{held_behind}
 use Rattle.mask_ciphers.proofs.Batches.{some_batch}
 use Rattle.mask_ciphers.proofs.Gates.{gates_go_on}
 use Rattle.mask_ciphers.proofs.Writing.{messages_go_on}
-use Rattle.mask_plan.specs.Sessions.{Progress, Begins, Evaluated, batch_length, gates_for, next_steps, next_output}
+use Rattle.mask_plan.specs.Sessions.{Progress, Begins, Evaluated, batch_length, gates_for, known_bytes, next_steps, next_output}
 use Rattle.mask_message.specs.Sessions.{HasKeyOf, HasTaken}
 
 -- BATCHES
@@ -28,9 +28,9 @@ batches-more task n k whole all =
     ap (λ (x : ℕ). x % batch_length task) sum ∙ add-mod_left (batch_length task) n ∙ whole
 
 -- a batch more leaves less room below the limit
-pub room-smaller : (task : Task) (fed fed' n : ℕ) → fed' ≡ fed + n → fed + n ≤ longest_message task → n ≡ batch_length task →
+pub room-smaller : (task : Task) (fed fed' n behind : ℕ) → fed' ≡ fed + n → fed + (n + behind) ≤ longest_message task → n ≡ batch_length task →
     longest_message task - fed' < longest_message task - fed
-room-smaller task fed fed' n is within all = omega (arith, some_batch task)
+room-smaller task fed fed' n behind is within all = omega (arith, some_batch task)
 
 -- STEPS
 
@@ -99,7 +99,7 @@ module _ (task : Task) (N : ℕ) (lines : List (List ℕ)) (front piece : List �
   pub behind-more : (s' : Progress) (c : Stand) → Evaluated N s s' piece last b c → HasTaken s s' piece last →
       Behind task N lines (fed_steps (method_of task) front ++ next_steps s piece last) (length (front ++ piece)) s' a c
   behind-more s' c evaluated now =
-      let limit : s.fed + length piece ≤ longest_message task = subst (λ (t : Task). s.fed + length piece ≤ longest_message t) behind.task_is evaluated.within in
+      let limit : known_bytes s piece last ≤ longest_message task = subst (λ (t : Task). known_bytes s piece last ≤ longest_message t) behind.task_is evaluated.within in
       let fed = behind.fed_is in
       let more : s'.fed ≡ s.fed + length piece = ap (λ (p : Progress). p.fed) now in
       let sum = length-append front piece in

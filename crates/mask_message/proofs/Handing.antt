@@ -1,5 +1,5 @@
 -- Bytes from bits that are handed out in shares.
-use Rattle.std.proofs.Common.{◌≡◌, ℕ, zero, suc, ◌+◌, ◌*◌, ◌/◌, ◌%◌, ◌^◌, ◌<◌, ◌≤◌, Bool, false, List, [], ◌∷◌, ◌++◌, map, length, take, get_or, refl, ◌∙◌, sym, ap, ap₂, subst, arith}
+use Rattle.std.proofs.Common.{◌≡◌, ℕ, zero, suc, ◌+◌, ◌*◌, ◌/◌, ◌%◌, ◌^◌, ◌<◌, ◌≤◌, Bool, true, false, List, [], ◌∷◌, ◌++◌, map, length, take, get_or, refl, ◌∙◌, sym, ap, ap₂, subst, arith}
 use Rattle.std.proofs.lemmas.List.{take_all, ext_get_or}
 use Rattle.mask_bits.specs.Lanes.{lane}
 use Rattle.mask_bits.specs.Reading.{AreBytes, bit, lowest, number}
@@ -11,11 +11,12 @@ use Rattle.mask_circuit.proofs.Places.{length-each}
 use Rattle.mask_shares.proofs.Lists.{get_or-each}
 use Rattle.mask_eval.proofs.Shared.{unmasked_in_lane}
 use Rattle.mask_tasks.specs.declared.tasks.Task.{Task}
-use Rattle.mask_tasks.specs.declared.tasks.Task.TheVariants.{Present, Lea, Trivium}
+use Rattle.mask_tasks.specs.declared.tasks.Task.TheVariants.{Present, Lea, Trivium, LightMac, Chaskey}
 use Rattle.mask_tasks.specs.Tasks.{key_bytes}
 use Rattle.mask_keys.specs.Lines.{joined, line_length}
 use Rattle.mask_trace.specs.Drawing.{Stand}
-use Rattle.mask_ciphers.specs.Methods.{AreBatches}
+use Rattle.mask_tasks.proofs.Limits.{lightmac_tag-bounds, chaskey_tag-bounds}
+use Rattle.mask_ciphers.specs.Methods.{AreBatches, IsCipher, next_length}
 use Rattle.mask_ciphers.specs.Tasks.{method_of}
 use Rattle.mask_ciphers.proofs.Writing.{pieces_are_written}
 use Rattle.mask_plan.specs.Sessions.{Progress, HandsOut, batch_length, block_length, next_output, out_words}
@@ -81,26 +82,60 @@ joined-long task lines long = length-each (λ b. unmasked words (map (λ (line :
 
 module _ (task : Task) (N : ℕ) (lines : List (List ℕ)) (front piece : List ℕ) (last : Bool) (s : Progress) (a b : Stand)
     (behind : BehindBatches task N lines front s a b) (whole : AreBatches (method_of task) (length front)) (long : length (joined lines) ≡ key_bytes task) where
-  next-long : length (next_output s piece last) ≡ length piece
+  next-long : length (next_output s piece last) ≡ next_length (method_of task) piece last
   next-long = ap length (next_output-is task N lines front piece last s a b behind whole) ∙ pieces_are_written.as_long task (joined lines) front piece last long
 
   next-bytes : AreBytes piece → AreBytes (next_output s piece last)
   next-bytes are = rw (next_output-is task N lines front piece last s a b behind whole) (pieces_are_written.bytes task (joined lines) front piece last long are)
 
   -- what holds of all bytes that may be handed out holds of those that are due
-  pub due : (X : List ℕ → Type 0) (n : ℕ) (s' : Progress) → length piece ≡ n → AreBytes piece → HandsOut s' (next_output s piece last) →
+  pub due : (X : List ℕ → Type 0) (n : ℕ) (s' : Progress) → next_length (method_of task) piece last ≡ n → AreBytes piece → HandsOut s' (next_output s piece last) →
       ((bytes : List ℕ) → length bytes ≡ n → AreBytes bytes → HandsOut s' bytes → X bytes) → X (next_output s piece last)
   due X n s' size are hands all = all (next_output s piece last) (next-long ∙ size) (next-bytes are) hands
 
+-- a ciphertext is as long as its piece, and of a code the tag comes behind the last one
+pub cipher-long : (task : Task) → IsCipher (method_of task) → (piece : List ℕ) (last : Bool) → next_length (method_of task) piece last ≡ length piece
+cipher-long (Present size iv) cipher piece last = refl
+cipher-long (Lea size iv) cipher piece last = refl
+cipher-long (Trivium iv) cipher piece last = refl
+cipher-long (LightMac size counter tag) cipher piece last = absurd cipher
+cipher-long (Chaskey tag) cipher piece last = absurd cipher
+
+pub tag-long : (task : Task) → (IsCipher (method_of task) → ⊥) → (piece : List ℕ) → next_length (method_of task) piece true ≡ block_length task
+tag-long (Present size iv) tag piece = absurd (tag tt)
+tag-long (Lea size iv) tag piece = absurd (tag tt)
+tag-long (Trivium iv) tag piece = absurd (tag tt)
+tag-long (LightMac size counter tag_bytes) tag piece = refl
+tag-long (Chaskey tag_bytes) tag piece = refl
+
 -- LANES
 
--- a batch has no more than 64 blocks
-pub few_blocks : (task : Task) → batch_length task ≤ 64 * block_length task
-few_blocks (Present size iv) = omega arith
-few_blocks (Lea size iv) = omega arith
-few_blocks (Trivium iv) = omega arith
+-- a batch of a cipher has no more than 64 blocks
+pub few_blocks : (task : Task) → IsCipher (method_of task) → batch_length task ≤ 64 * block_length task
+few_blocks (Present size iv) cipher = omega arith
+few_blocks (Lea size iv) cipher = omega arith
+few_blocks (Trivium iv) cipher = omega arith
+few_blocks (LightMac size counter tag) cipher = absurd cipher
+few_blocks (Chaskey tag) cipher = absurd cipher
 
 pub some_block : (task : Task) → 0 < block_length task
 some_block (Present size iv) = omega arith
 some_block (Lea size iv) = omega arith
 some_block (Trivium iv) = omega arith
+some_block (LightMac size counter tag) = (lightmac_tag-bounds tag).0
+some_block (Chaskey tag) = (chaskey_tag-bounds tag).0
+
+-- a batch and a block are no longer than the most bytes of any
+pub batch_fits : (task : Task) → batch_length task ≤ 1024
+batch_fits (Present size iv) = omega arith
+batch_fits (Lea size iv) = omega arith
+batch_fits (Trivium iv) = omega arith
+batch_fits (LightMac size counter tag) = omega arith
+batch_fits (Chaskey tag) = omega arith
+
+pub block_fits : (task : Task) → block_length task ≤ 1024
+block_fits (Present size iv) = omega arith
+block_fits (Lea size iv) = omega arith
+block_fits (Trivium iv) = omega arith
+block_fits (LightMac size counter tag) = omega (arith, (lightmac_tag-bounds tag).1)
+block_fits (Chaskey tag) = omega (arith, (chaskey_tag-bounds tag).1)

@@ -12,13 +12,14 @@ use Rattle.mask_trace.specs.Values.{HasShares, IsStrongEvaluation}
 use Rattle.mask_gadget.proofs.Telling.{told_more-none}
 use Rattle.mask_trace.proofs.Drawing.{parts_are_beginnings}
 use Rattle.mask_trace.proofs.Computing.{traces_are_evaluations}
-use Rattle.mask_ciphers.specs.Tasks.{plan, with_lines}
+use Rattle.mask_ciphers.specs.Methods.{Method, InCounterMode, AsStream, AsCode}
+use Rattle.mask_ciphers.specs.Tasks.{method_of, plan, with_lines}
 use Rattle.mask_status.specs.declared.status.Status.{Status}
 use Rattle.mask_status.specs.declared.status.Status.TheVariants.{Done, Refused, BadWords, BadText, BadKeys, KeyFault, TooLong, ReadFault, TapeFault, WriteFault, BadProbe, NoMemory}
 use Rattle.mask_status.specs.Ends.{is_key_fault}
 use Rattle.mask_secrets.specs.KeyEnds.{IsOfKeys}
 use Rattle.mask_message.specs.Outside.{Outside}
-use Rattle.mask_message.specs.Encrypting.{RanSteps, Streams, TellsStrongCalls, at_first, at_last}
+use Rattle.mask_message.specs.Encrypting.{RanSteps, Streams, StreamsBy, StreamsOut, Tags, TellsStrongCalls, at_first, at_last}
 use Rattle.mask_ciphers.proofs.Breaking.{plans_are_strong}
 use Rattle.mask_ciphers.proofs.Joining.{lines_share_keys}
 
@@ -41,42 +42,77 @@ module _ (task : Task) (N : ℕ) (lines : List (List ℕ)) (o : Outside) (some :
             (traces_are_evaluations N (8 * key_bytes task) 0 held steps tape (omega arith) (plans_are_strong task is_task bytes) has enough),
       )
 
-  -- whatever the status
+  -- whatever the status, of a ciphertext ..
+  ciphertexts_tell : (bytes : List ℕ) (status : Status) → StreamsOut task N lines bytes o status → TellsStrongCalls N o.told_before o.told_after
+  ciphertexts_tell bytes Done e = steps_tell bytes _ e.ran
+  ciphertexts_tell bytes WriteFault e = steps_tell bytes _ e.ran
+  ciphertexts_tell bytes (TooLong limit) e = steps_tell bytes _ e.3.ran
+  ciphertexts_tell bytes ReadFault e = steps_tell bytes _ e.4.ran
+  ciphertexts_tell bytes NoMemory e = steps_tell bytes _ e.4.ran
+  ciphertexts_tell bytes TapeFault e = steps_tell bytes e.count e.ran
+  ciphertexts_tell bytes (Refused product source) e = absurd e
+  ciphertexts_tell bytes (BadWords place) e = absurd e
+  ciphertexts_tell bytes (BadText line reason) e = absurd e
+  ciphertexts_tell bytes (BadKeys reason) e = absurd e
+  ciphertexts_tell bytes KeyFault e = absurd e
+  ciphertexts_tell bytes (BadProbe place) e = absurd e
+
+  -- .. and of a tag
+  tags_tell : (bytes : List ℕ) (status : Status) → Tags task N lines bytes o status → TellsStrongCalls N o.told_before o.told_after
+  tags_tell bytes Done e = steps_tell bytes _ e.ran
+  tags_tell bytes WriteFault e = steps_tell bytes _ e.ran
+  tags_tell bytes (TooLong limit) e = steps_tell bytes _ e.3.ran
+  tags_tell bytes ReadFault e = steps_tell bytes _ e.4.ran
+  tags_tell bytes NoMemory e = steps_tell bytes _ e.4.ran
+  tags_tell bytes TapeFault e = steps_tell bytes e.count e.ran
+  tags_tell bytes (Refused product source) e = absurd e
+  tags_tell bytes (BadWords place) e = absurd e
+  tags_tell bytes (BadText line reason) e = absurd e
+  tags_tell bytes (BadKeys reason) e = absurd e
+  tags_tell bytes KeyFault e = absurd e
+  tags_tell bytes (BadProbe place) e = absurd e
+
   pub streams_tell : (bytes : List ℕ) (status : Status) → Streams task N lines bytes o status → TellsStrongCalls N o.told_before o.told_after
-  streams_tell bytes Done e = steps_tell bytes _ e.ran
-  streams_tell bytes WriteFault e = steps_tell bytes _ e.ran
-  streams_tell bytes (TooLong limit) e = steps_tell bytes _ e.3.ran
-  streams_tell bytes ReadFault e = steps_tell bytes _ e.4.ran
-  streams_tell bytes NoMemory e = steps_tell bytes _ e.4.ran
-  streams_tell bytes TapeFault e = steps_tell bytes e.count e.ran
-  streams_tell bytes (Refused product source) e = absurd e
-  streams_tell bytes (BadWords place) e = absurd e
-  streams_tell bytes (BadText line reason) e = absurd e
-  streams_tell bytes (BadKeys reason) e = absurd e
-  streams_tell bytes KeyFault e = absurd e
-  streams_tell bytes (BadProbe place) e = absurd e
+  streams_tell bytes status e = by_method (method_of task) e
+    where
+      by_method : (method : Method) → StreamsBy method task N lines bytes o status → TellsStrongCalls N o.told_before o.told_after
+      by_method (InCounterMode m cipher) says = ciphertexts_tell bytes status says
+      by_method (AsStream iv) says = ciphertexts_tell bytes status says
+      by_method (AsCode code) says = tags_tell bytes status says
 
 -- WHAT A STATUS RULES OUT
 
 module _ (task : Task) (N : ℕ) (lines : List (List ℕ)) (o : Outside) (bytes : List ℕ) where
   -- a run that has key lines ends with no status of the key file
   pub streams_have_keys : (status : Status) → Streams task N lines bytes o status → IsOfKeys status → ⊥
-  streams_have_keys (BadKeys reason) e of_keys = e
-  streams_have_keys KeyFault e of_keys = e
-  streams_have_keys Done e of_keys = of_keys
-  streams_have_keys WriteFault e of_keys = of_keys
-  streams_have_keys (TooLong limit) e of_keys = of_keys
-  streams_have_keys ReadFault e of_keys = of_keys
-  streams_have_keys NoMemory e of_keys = of_keys
-  streams_have_keys TapeFault e of_keys = of_keys
-  streams_have_keys (Refused product source) e of_keys = of_keys
-  streams_have_keys (BadWords place) e of_keys = of_keys
-  streams_have_keys (BadText line reason) e of_keys = of_keys
-  streams_have_keys (BadProbe place) e of_keys = of_keys
+  streams_have_keys status e of_keys = by_method (method_of task) status e of_keys
+    where
+      by_method : (method : Method) (status : Status) → StreamsBy method task N lines bytes o status → IsOfKeys status → ⊥
+      by_method (InCounterMode m cipher) (BadKeys reason) says is = says
+      by_method (InCounterMode m cipher) KeyFault says is = says
+      by_method (AsStream iv) (BadKeys reason) says is = says
+      by_method (AsStream iv) KeyFault says is = says
+      by_method (AsCode code) (BadKeys reason) says is = says
+      by_method (AsCode code) KeyFault says is = says
+      by_method method Done says is = is
+      by_method method WriteFault says is = is
+      by_method method (TooLong limit) says is = is
+      by_method method ReadFault says is = is
+      by_method method NoMemory says is = is
+      by_method method TapeFault says is = is
+      by_method method (Refused product source) says is = is
+      by_method method (BadWords place) says is = is
+      by_method method (BadText line reason) says is = is
+      by_method method (BadProbe place) says is = is
 
   -- what failed is the tape, and it wants some bytes
   pub streams_want : (status : Status) → Streams task N lines bytes o status → status ≡ TapeFault → 1 ≤ o.wanted
-  streams_want status e is = (subst (Streams task N lines bytes o) is e).wanted
+  streams_want status e is = by_method (method_of task) (subst (Streams task N lines bytes o) is e)
+    where
+      by_method : (method : Method) → StreamsBy method task N lines bytes o TapeFault → 1 ≤ o.wanted
+      by_method (InCounterMode m cipher) says = says.wanted
+      by_method (AsStream iv) says = says.wanted
+      by_method (AsCode code) says = says.wanted
 
 -- a fault of the key file is a status of it
 pub no_key_fault : (status : Status) → (IsOfKeys status → ⊥) → is_key_fault status ≡ false

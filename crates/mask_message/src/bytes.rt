@@ -8,7 +8,7 @@ ghost use Rattle.mask_bits.specs.Lanes.{lane};
 ghost use Rattle.mask_bits.specs.Reading.{AreBytes, bit};
 ghost use Rattle.mask_circuit.specs.Ring.{bits};
 ghost use Rattle.mask_circuit.specs.Sharing.{unmasked};
-ghost use Rattle.mask_plan.specs.Sessions.{HandsOut, batch_length, block_length, out_words};
+ghost use Rattle.mask_plan.specs.Sessions.{HandsOut, block_length, out_words};
 
 use mask_bits::bit_of;
 use mask_io::{Failed, Sink, write_all};
@@ -21,7 +21,7 @@ pub(crate) fn hand_out<const N: usize, O: Sink>(
     out: &mut O,
 ) -> Result<(), Failed>
     requires few { N ≤ 8 }
-    requires room { length room.old ≤ batch_length session.now.task }
+    requires room { length room.old ≤ 64 * block_length session.now.task }
     ensures length { length room.new ≡ length room.old }
     ensures whole { OnOk result ((bytes : List ℕ) → length bytes ≡ length room.old → AreBytes bytes → HandsOut session.now bytes →
         Appends (O.written out.old) (O.written out.new) bytes) }
