@@ -1,4 +1,7 @@
-use crate::{KeySize, LeaSize, Named, Task, circuit_named, key_length, message_limit};
+use crate::{
+    KeySize, LeaSize, Named, Task, chaskey_tag_length, circuit_named, counter_length, key_length,
+    lightmac_tag_length, message_limit,
+};
 
 #[test]
 fn circuits_are_found_by_name(rt: HostRuntime) {
@@ -53,4 +56,35 @@ fn tasks_have_lengths(rt: HostRuntime) {
     let cipher = Task::Trivium { iv: [0; 10] };
     assert_eq!(rt; key_length(&cipher), 10);
     assert_eq!(rt; message_limit(&cipher), 268_435_456);
+}
+
+#[test]
+fn codes_have_lengths(rt: HostRuntime) {
+    for (size, counter, key, limit) in [
+        (KeySize::K80, 1, 20, 1_792),
+        (KeySize::K128, 2, 32, 393_216),
+        (KeySize::K128, 4, 32, 268_435_456),
+    ] {
+        let code = Task::LightMac {
+            size,
+            counter,
+            tag: 8,
+        };
+        assert_eq!(rt; key_length(&code), key);
+        assert_eq!(rt; message_limit(&code), limit);
+    }
+    let code = Task::Chaskey { tag: 16 };
+    assert_eq!(rt; key_length(&code), 16);
+    assert_eq!(rt; message_limit(&code), 268_435_456);
+}
+
+#[test]
+fn counters_and_tags_have_lengths(rt: HostRuntime) {
+    for (counter, length) in [(1, 1), (2, 2), (4, 4), (3, 4)] {
+        assert_eq!(rt; counter_length(counter), length);
+    }
+    for (tag, of_lightmac, of_chaskey) in [(4, 4, 16), (8, 8, 8), (16, 8, 16)] {
+        assert_eq!(rt; lightmac_tag_length(tag), of_lightmac);
+        assert_eq!(rt; chaskey_tag_length(tag), of_chaskey);
+    }
 }
