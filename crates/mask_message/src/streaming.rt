@@ -1,6 +1,6 @@
 //! A message, batch by batch.
 
-ghost use Rattle.std.specs.Prelude.{◌≡◌, ℕ, ◌+◌, ◌≤◌, false, None, List, length, IfErr, OnOk, MatchResult};
+ghost use Rattle.std.specs.Prelude.{◌≡◌, ℕ, ◌+◌, ◌≤◌, true, false, None, List, length, IfErr, OnOk, MatchResult};
 ghost use Rattle.std.specs.declared.option.Option.{Option};
 ghost use Rattle.mask_io.specs.Outside.{faults_after};
 ghost use Rattle.mask_tasks.specs.Tasks.{IsTask, key_bytes};
@@ -9,7 +9,7 @@ ghost use Rattle.mask_bits.specs.Reading.{AreBytes};
 ghost use Rattle.mask_trace.specs.Drawing.{stand};
 ghost use Rattle.mask_plan.specs.declared.session.Stop.{Stop};
 ghost use Rattle.mask_plan.specs.declared.session.PlanError.TheVariants as PlanError;
-ghost use Rattle.mask_ciphers.specs.Methods.{IsCipher, start_steps};
+ghost use Rattle.mask_ciphers.specs.Methods.{IsCipher, MayEnd, start_steps};
 ghost use Rattle.mask_ciphers.specs.Tasks.{method_of};
 ghost use Rattle.mask_plan.specs.Sessions.{Evaluated, Refuses, batch_length, gates_for};
 ghost use Rattle.mask_status.specs.Ends.{is_read_fault, is_tape_fault, is_write_fault};
@@ -19,6 +19,7 @@ ghost use Rattle.mask_message.specs.Sessions.{HasKeyOf, HasTaken};
 ghost use Rattle.mask_message.specs.Stopping.{is_of_tape, status_of};
 
 use crate::bytes::hand_out;
+use crate::tagging::tag_message;
 use mask_circuit::Steps;
 use mask_eval::Watch;
 use mask_io::{Entropy, Sink, Source, read_full};
@@ -33,7 +34,7 @@ use std::sync::ledger::Ledger;
 // The most bytes of a batch.
 const ROOM: usize = 1_024;
 
-/// Encrypts all that the input has left, and writes it batch by batch.
+/// Encrypts all that the input has left, and writes it batch by batch, or makes its tag and writes that.
 pub(crate) fn stream<const N: usize, S: Source, E: Entropy, O: Sink, W: Watch, L: Ledger>(
     alloc: Global,
     task: &Task,
@@ -77,18 +78,38 @@ pub(crate) fn stream<const N: usize, S: Source, E: Entropy, O: Sink, W: Watch, L
         Err(_) => return Status::NoMemory,
     };
     let batch = session.batch_bytes();
+    let block = session.block_bytes();
     let mut taken = [0; ROOM];
     let mut given = [0; ROOM];
-    encrypt_batches(
-        &mut session,
-        &mut taken[..batch],
-        &mut given[..batch],
-        input,
-        entropy,
-        out,
-        watch,
-        steps,
-    )
+    let piece = &mut taken[..batch];
+    if session.makes_tag() {
+        let mut next = [0; ROOM];
+        let next = &mut next[..batch];
+        let room = &mut given[..block];
+        tag_message(
+            &mut session,
+            piece,
+            next,
+            room,
+            input,
+            entropy,
+            out,
+            watch,
+            steps,
+        )
+    } else {
+        let room = &mut given[..batch];
+        encrypt_batches(
+            &mut session,
+            piece,
+            room,
+            input,
+            entropy,
+            out,
+            watch,
+            steps,
+        )
+    }
 }
 
 // Encrypts all that the input has left under the key of a session that begins. Batches are read into `piece`, and unmasked
@@ -163,8 +184,8 @@ fn encrypt_batches<const N: usize, S: Source, E: Entropy, O: Sink, W: Watch, L: 
     }
 }
 
-// Takes the next bytes of the message: a whole batch, or the last ones.
-fn advance<const N: usize, E: Entropy, W: Watch, L: Ledger>(
+/// Takes the next bytes of the message: a whole batch, or the last ones.
+pub(crate) fn advance<const N: usize, E: Entropy, W: Watch, L: Ledger>(
     session: &mut Session<N>,
     piece: &[u8],
     last: bool,
@@ -177,6 +198,7 @@ fn advance<const N: usize, E: Entropy, W: Watch, L: Ledger>(
     requires unended { session.old.ended ≡ false }
     requires few { length piece.now ≤ batch_length session.old.task }
     requires whole { last ≡ false → length piece.now ≡ batch_length session.old.task }
+    requires ends { last ≡ true → MayEnd (method_of session.old.task) session.old.fed piece.now }
     ensures evaluated { OnOk result (Evaluated N session.old session.new piece.now last
         (stand tape.old (E.left entropy.old) (W.told watch.old)) (stand tape.new (E.left entropy.new) (W.told watch.new))) }
     ensures now { OnOk result (HasTaken session.old session.new piece.now last) }
@@ -210,7 +232,8 @@ fn stop_of(error: PlanError) -> Stop
     }
 }
 
-fn status_of(stop: Stop) -> Status
+/// The status of a refusal.
+pub(crate) fn status_of(stop: Stop) -> Status
     ensures { result ≡ status_of stop }
 {
     match stop {
