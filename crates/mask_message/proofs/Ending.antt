@@ -293,7 +293,8 @@ module _ (task : Task) (N : ℕ) (lines : List (List ℕ)) (o : Outside) (kept :
     ran-stopped : RanSteps task N lines bytes stopped-at o
     ran-stopped = record { kept = kept; part = stopped-part; private = runs_are_private N task is_task bytes stopped-at some }
 
-    wanted-in-all : length stopped-part.ran.fresh + o.wanted ≤ bytes_for (total task (pred N) (length bytes))
+    wanted-in-all : length ran-stopped.part.ran.fresh + o.wanted ≤ bytes_for (total task (pred N) (length bytes))
+    unfolding ran-stopped
     wanted-in-all =
         rw (← run-bits task N bytes some)
         (wanted-within _ (bits_of N stop.next) _ stopped-part.ran.fresh o.wanted (at_first o) (at_last kept o) refl stopped-part.ran.drew stop.wants stop.some fit)

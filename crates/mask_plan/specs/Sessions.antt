@@ -8,7 +8,7 @@ use Rattle.mask_tape.specs.Tape.{new_bytes}
 use Rattle.mask_tape.specs.declared.tape.TapeError.{TapeError}
 use Rattle.mask_tape.specs.declared.tape.TapeError.TheVariants as tape_error
 use Rattle.mask_tasks.specs.declared.tasks.Task.{Task}
-use Rattle.mask_tasks.specs.declared.tasks.Task.TheVariants.{Present, Lea, Trivium}
+use Rattle.mask_tasks.specs.declared.tasks.Task.TheVariants.{Present, Lea, Trivium, LightMac, Chaskey}
 use Rattle.mask_tasks.specs.Tasks.{longest_message}
 use Rattle.mask_trace.specs.Steps.{Registers, Step, bits_of}
 use Rattle.mask_trace.specs.Traces.{BitShares}
@@ -48,6 +48,10 @@ ahead s last = methods.ahead (method_of s.task) s.fed last
 abbrev pub next_output : Progress → List ℕ → Bool → List ℕ
 next_output s piece last = methods.next_output (method_of s.task) (values_of s.held) s.fed piece last
 
+-- how many bytes of the message are known with them
+abbrev pub known_bytes : Progress → List ℕ → Bool → ℕ
+known_bytes s piece last = s.fed + (length piece + methods.known_behind (method_of s.task) last)
+
 -- how many gates are evaluated for them
 abbrev pub gates_for : Progress → List ℕ → Bool → ℕ
 gates_for s piece last = methods.next_gates (method_of s.task) s.fed piece last
@@ -61,12 +65,16 @@ abbrev pub bit_place : Task → ℕ → ℕ → ℕ
 bit_place (Present size iv) byte place = 8 * (8 - suc byte) + place
 bit_place (Lea size iv) byte place = 8 * byte + place
 bit_place (Trivium iv) byte place = 288 + (8 * byte + place)
+bit_place (LightMac size counter tag) byte place = 8 * (8 - suc byte) + place
+bit_place (Chaskey tag) byte place = 8 * byte + place
 
 -- among so many: those of a block, and behind the state of Trivium those of its output
 abbrev pub output_bits : Task → ℕ
 output_bits (Present size iv) = 64
 output_bits (Lea size iv) = 128
 output_bits (Trivium iv) = 352
+output_bits (LightMac size counter tag) = 64
+output_bits (Chaskey tag) = 128
 
 -- the words of the shares of that bit, a block in each lane
 abbrev pub out_words : Progress → ℕ → ℕ → List ℕ
@@ -83,7 +91,7 @@ HandsOut s bytes = (k p : ℕ) → k < length bytes → p < 8 →
 -- after it.
 pub record Evaluated (N : ℕ) (s s' : Progress) (piece : List ℕ) (last : Bool) (a b : Stand) : Type 0 where
   pub unclosed : s.closed ≡ None
-  pub within : s.fed + length piece ≤ longest_message s.task
+  pub within : known_bytes s piece last ≤ longest_message s.task
   pub ran : Ran N s.held (next_steps s piece last) s'.held a b
   pub values : values_of s'.held ≡ value_after (values_of s.held) (next_steps s piece last)
   pub hands_out : HandsOut s' (next_output s piece last)
@@ -103,7 +111,7 @@ pub record Interrupted (N : ℕ) (s : Progress) (piece : List ℕ) (last : Bool)
 
 -- why a call was refused
 abbrev pub Refuses : ℕ → Progress → List ℕ → Bool → ℕ → ℕ → ℕ → Stand → Stand → Stop → Type 0
-Refuses N s piece last wanted steps steps' a b (TooLong limit) = (limit ≡ longest_message s.task) × (limit < s.fed + length piece) × (b ≡ a) × (steps' ≡ steps)
+Refuses N s piece last wanted steps steps' a b (TooLong limit) = (limit ≡ longest_message s.task) × (limit < known_bytes s piece last) × (b ≡ a) × (steps' ≡ steps)
 Refuses N s piece last wanted steps steps' a b TapeFault = Interrupted N s piece last wanted steps steps' a b
 Refuses N s piece last wanted steps steps' a b NoMemory = (b ≡ a) × (steps' ≡ steps)
 
