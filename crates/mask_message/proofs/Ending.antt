@@ -140,6 +140,15 @@ to_cipher task cipher N lines bytes o status says = go (method_of task) cipher
     go (AsStream iv) is = says
     go (AsCode code) is = absurd is
 
+pub of_cipher : (task : Task) → IsCipher (method_of task) → (N : ℕ) (lines : List (List ℕ)) (bytes : List ℕ) (o : Outside) (status : Status) →
+    Streams task N lines bytes o status → StreamsOut task N lines bytes o status
+of_cipher task cipher N lines bytes o status says = go (method_of task) cipher says
+  where
+    go : (method : Method) → IsCipher method → StreamsBy method task N lines bytes o status → StreamsOut task N lines bytes o status
+    go (InCounterMode m block_cipher) is said = said
+    go (AsStream iv) is said = said
+    go (AsCode code) is said = absurd is
+
 to_tag : (task : Task) → (IsCipher (method_of task) → ⊥) → (N : ℕ) (lines : List (List ℕ)) (bytes : List ℕ) (o : Outside) (status : Status) →
     Tags task N lines bytes o status → Streams task N lines bytes o status
 to_tag task tag N lines bytes o status says = go (method_of task) tag
@@ -148,6 +157,16 @@ to_tag task tag N lines bytes o status says = go (method_of task) tag
     go (InCounterMode m cipher) none = absurd (none tt)
     go (AsStream iv) none = absurd (none tt)
     go (AsCode code) none = says
+
+-- it is one or the other
+pub ciphertext_or_tag : (task : Task) (N : ℕ) (lines : List (List ℕ)) (bytes : List ℕ) (o : Outside) (status : Status) →
+    Streams task N lines bytes o status → StreamsOut task N lines bytes o status ⊎ Tags task N lines bytes o status
+ciphertext_or_tag task N lines bytes o status says = go (method_of task) says
+  where
+    go : (method : Method) → StreamsBy method task N lines bytes o status → StreamsOut task N lines bytes o status ⊎ Tags task N lines bytes o status
+    go (InCounterMode m cipher) said = inl said
+    go (AsStream iv) said = inl said
+    go (AsCode code) said = inr said
 
 -- of both
 done : (task : Task) (N : ℕ) (lines : List (List ℕ)) (bytes : List ℕ) (o : Outside) → Encrypts task N lines bytes o → Streams task N lines bytes o Done

@@ -1,5 +1,5 @@
 -- What the watch is told: evaluations of strong circuits alone.
-use Rattle.std.proofs.Common.{◌≡◌, ℕ, ◌*◌, ◌≤◌, Bool, false, List, [], ◌++◌, length, take, replicate, refl, ◌∙◌, subst, arith, length-append, Option}
+use Rattle.std.proofs.Common.{◌≡◌, ℕ, ◌*◌, ◌≤◌, Bool, false, List, [], ◌++◌, length, take, replicate, refl, ◌∙◌, subst, arith, length-append, Option, ◌⊎◌, inl, inr}
 use Rattle.std.proofs.lemmas.List.{length-replicate}
 use Rattle.std.proofs.lemmas.List.Elements.{All-nil, All-take}
 use Rattle.mask_bits.specs.Reading.{low}
@@ -12,15 +12,15 @@ use Rattle.mask_trace.specs.Values.{HasShares, IsStrongEvaluation}
 use Rattle.mask_gadget.proofs.Telling.{told_more-none}
 use Rattle.mask_trace.proofs.Drawing.{parts_are_beginnings}
 use Rattle.mask_trace.proofs.Computing.{traces_are_evaluations}
-use Rattle.mask_ciphers.specs.Methods.{Method, InCounterMode, AsStream, AsCode}
-use Rattle.mask_ciphers.specs.Tasks.{method_of, plan, with_lines}
+use Rattle.mask_ciphers.specs.Tasks.{plan, with_lines}
 use Rattle.mask_status.specs.declared.status.Status.{Status}
 use Rattle.mask_status.specs.declared.status.Status.TheVariants.{Done, Refused, BadWords, BadText, BadKeys, KeyFault, TooLong, ReadFault, TapeFault, WriteFault, BadProbe, NoMemory}
 use Rattle.mask_status.specs.Ends.{is_key_fault}
 use Rattle.mask_secrets.specs.KeyEnds.{IsOfKeys}
 use Rattle.mask_message.specs.Outside.{Outside}
-use Rattle.mask_message.specs.Encrypting.{RanSteps, Streams, StreamsBy, StreamsOut, Tags, TellsStrongCalls, at_first, at_last}
+use Rattle.mask_message.specs.Encrypting.{RanSteps, Streams, StreamsOut, Tags, TellsStrongCalls, at_first, at_last}
 use Rattle.mask_ciphers.proofs.Breaking.{plans_are_strong}
+use Rattle.mask_message.proofs.Ending.{ciphertext_or_tag}
 use Rattle.mask_ciphers.proofs.Joining.{lines_share_keys}
 
 -- nothing was told
@@ -73,46 +73,42 @@ module _ (task : Task) (N : ℕ) (lines : List (List ℕ)) (o : Outside) (some :
   tags_tell bytes (BadProbe place) e = absurd e
 
   pub streams_tell : (bytes : List ℕ) (status : Status) → Streams task N lines bytes o status → TellsStrongCalls N o.told_before o.told_after
-  streams_tell bytes status e = by_method (method_of task) e
-    where
-      by_method : (method : Method) → StreamsBy method task N lines bytes o status → TellsStrongCalls N o.told_before o.told_after
-      by_method (InCounterMode m cipher) says = ciphertexts_tell bytes status says
-      by_method (AsStream iv) says = ciphertexts_tell bytes status says
-      by_method (AsCode code) says = tags_tell bytes status says
+  streams_tell bytes status e =
+      elim (ciphertext_or_tag task N lines bytes o status e) [
+        | inl ciphertext ↦ ciphertexts_tell bytes status ciphertext
+        | inr tag ↦ tags_tell bytes status tag
+      ]
 
 -- WHAT A STATUS RULES OUT
 
 module _ (task : Task) (N : ℕ) (lines : List (List ℕ)) (o : Outside) (bytes : List ℕ) where
   -- a run that has key lines ends with no status of the key file
   pub streams_have_keys : (status : Status) → Streams task N lines bytes o status → IsOfKeys status → ⊥
-  streams_have_keys status e of_keys = by_method (method_of task) status e of_keys
+  streams_have_keys status e of_keys = go status (ciphertext_or_tag task N lines bytes o status e) of_keys
     where
-      by_method : (method : Method) (status : Status) → StreamsBy method task N lines bytes o status → IsOfKeys status → ⊥
-      by_method (InCounterMode m cipher) (BadKeys reason) says is = says
-      by_method (InCounterMode m cipher) KeyFault says is = says
-      by_method (AsStream iv) (BadKeys reason) says is = says
-      by_method (AsStream iv) KeyFault says is = says
-      by_method (AsCode code) (BadKeys reason) says is = says
-      by_method (AsCode code) KeyFault says is = says
-      by_method method Done says is = is
-      by_method method WriteFault says is = is
-      by_method method (TooLong limit) says is = is
-      by_method method ReadFault says is = is
-      by_method method NoMemory says is = is
-      by_method method TapeFault says is = is
-      by_method method (Refused product source) says is = is
-      by_method method (BadWords place) says is = is
-      by_method method (BadText line reason) says is = is
-      by_method method (BadProbe place) says is = is
+      go : (status : Status) → StreamsOut task N lines bytes o status ⊎ Tags task N lines bytes o status → IsOfKeys status → ⊥
+      go (BadKeys reason) (inl says) is = says
+      go (BadKeys reason) (inr says) is = says
+      go KeyFault (inl says) is = says
+      go KeyFault (inr says) is = says
+      go Done says is = is
+      go WriteFault says is = is
+      go (TooLong limit) says is = is
+      go ReadFault says is = is
+      go NoMemory says is = is
+      go TapeFault says is = is
+      go (Refused product source) says is = is
+      go (BadWords place) says is = is
+      go (BadText line reason) says is = is
+      go (BadProbe place) says is = is
 
   -- what failed is the tape, and it wants some bytes
   pub streams_want : (status : Status) → Streams task N lines bytes o status → status ≡ TapeFault → 1 ≤ o.wanted
-  streams_want status e is = by_method (method_of task) (subst (Streams task N lines bytes o) is e)
-    where
-      by_method : (method : Method) → StreamsBy method task N lines bytes o TapeFault → 1 ≤ o.wanted
-      by_method (InCounterMode m cipher) says = says.wanted
-      by_method (AsStream iv) says = says.wanted
-      by_method (AsCode code) says = says.wanted
+  streams_want status e is =
+      elim (ciphertext_or_tag task N lines bytes o TapeFault (subst (Streams task N lines bytes o) is e)) [
+        | inl ciphertext ↦ ciphertext.wanted
+        | inr tag ↦ tag.wanted
+      ]
 
 -- a fault of the key file is a status of it
 pub no_key_fault : (status : Status) → (IsOfKeys status → ⊥) → is_key_fault status ≡ false

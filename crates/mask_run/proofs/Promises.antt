@@ -110,6 +110,7 @@ HasLines kind = Unit {0}
 pub has_lines : (job : Job) (words : List Word) → HasOrder job → HasLines (kind_of job words)
 unfolding HasLines
 has_lines (jobs.Enc task order) words h = let few = h.1 in (omega arith, omega arith)
+has_lines (jobs.Mac task order) words h = let few = h.1 in (omega arith, omega arith)
 has_lines (jobs.Split order) words h = (omega arith, omega arith)
 has_lines (jobs.Join order) words h = let few = h.1 in (omega arith, omega arith)
 has_lines (jobs.Eval order) words h = tt

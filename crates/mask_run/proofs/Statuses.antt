@@ -1,5 +1,5 @@
 -- With which statuses jobs end where nothing that they read is out of form.
-use Rattle.std.proofs.Common.{◌≡◌, ℕ, suc, ◌<◌, ◌≤◌, false, List, length, None, Some, refl, sym, ap}
+use Rattle.std.proofs.Common.{◌≡◌, ℕ, suc, ◌<◌, ◌≤◌, false, List, length, None, Some, refl, sym, ap, inl, inr}
 use Rattle.std.specs.declared.option.Option.{Option}
 use Rattle.std.specs.Io.KnownBytes.{IsAtEnd}
 use Rattle.mask_tasks.specs.declared.tasks.Task.{Task}
@@ -17,7 +17,8 @@ use Rattle.mask_status.specs.Ends.{Writes, is_key_fault, is_read_fault}
 use Rattle.mask_secrets.specs.Splitting.{Sides, Splits, only_line}
 use Rattle.mask_emit.specs.Emitting.{named, Emits}
 use Rattle.mask_message.specs.Outside.{Outside}
-use Rattle.mask_message.specs.Encrypting.{Streams}
+use Rattle.mask_message.specs.Encrypting.{Streams, StreamsOut, Tags}
+use Rattle.mask_message.proofs.Ending.{ciphertext_or_tag}
 use Rattle.mask_self.specs.Selves.{RunsItself}
 use Rattle.mask_run.specs.Outside.{sides}
 use Rattle.mask_run.specs.Evaluating.{Evaluated}
@@ -68,15 +69,28 @@ module _ (bytes : List ℕ) (rest : Option (List ℕ)) where
   RunsItself-late seed N count o NoMemory h = tt
   RunsItself-late seed N count o status h = absurd h.0
 
-Streams-late : (task : Task) (N : ℕ) (lines : List (List ℕ)) (bytes : List ℕ) (o : Outside) (status : Status) → Streams task N lines bytes o status →
-    IsLate (Some (longest_message task)) bytes o.left_after status
-Streams-late task N lines bytes o Done h = (h.at_end, h.within)
-Streams-late task N lines bytes o (TooLong limit) h = (sym (ap Some h.0), h.1)
-Streams-late task N lines bytes o ReadFault h = tt
-Streams-late task N lines bytes o TapeFault h = tt
-Streams-late task N lines bytes o WriteFault h = tt
-Streams-late task N lines bytes o NoMemory h = tt
-Streams-late task N lines bytes o status h = absurd h
+module _ (task : Task) (N : ℕ) (lines : List (List ℕ)) (bytes : List ℕ) (o : Outside) where
+  out-late : (status : Status) → StreamsOut task N lines bytes o status → IsLate (Some (longest_message task)) bytes o.left_after status
+  out-late Done h = (h.at_end, h.within)
+  out-late (TooLong limit) h = (sym (ap Some h.0), h.1)
+  out-late ReadFault h = tt
+  out-late TapeFault h = tt
+  out-late WriteFault h = tt
+  out-late NoMemory h = tt
+  out-late status h = absurd h
+
+  tag-late : (status : Status) → Tags task N lines bytes o status → IsLate (Some (longest_message task)) bytes o.left_after status
+  tag-late Done h = (h.at_end, h.within)
+  tag-late (TooLong limit) h = (sym (ap Some h.0), h.1)
+  tag-late ReadFault h = tt
+  tag-late TapeFault h = tt
+  tag-late WriteFault h = tt
+  tag-late NoMemory h = tt
+  tag-late status h = absurd h
+
+  Streams-late : (status : Status) → Streams task N lines bytes o status → IsLate (Some (longest_message task)) bytes o.left_after status
+  Streams-late status h =
+      elim (ciphertext_or_tag task N lines bytes o status h) [ | inl ciphertext ↦ out-late status ciphertext | inr tag ↦ tag-late status tag ]
 
 -- a run that makes its own input has no fault of a key file or an input
 pub RunsItself-unread : (seed N count : ℕ) (o : Outside) (status : Status) → RunsItself seed N count o status →
@@ -99,6 +113,7 @@ does_late jobs.Check words = λ o text status h. Writes-late text o.left_after h
 does_late jobs.Upgrade words = λ o text status h. Writes-late text o.left_after _ o.out_before o.out_after status h.written
 does_late (jobs.Probe order) words = λ o text status h. Writes-late text o.left_after h.report o.out_before o.out_after status h.written
 does_late (jobs.Enc task order) words = λ o lines bytes status h. Streams-late task (suc order) lines bytes o status h
+does_late (jobs.Mac task order) words = λ o lines bytes status h. Streams-late task (suc order) lines bytes o status h
 does_late (jobs.Split order) words = λ o lines bytes status h. Splits-late bytes o.left_after order (only_line lines) (sides o) status h
 does_late (jobs.Join order) words = λ o lines bytes status h. Writes-late bytes o.left_after (line_text (joined lines)) o.out_before o.out_after status h
 does_late (jobs.Emit circuit) words = λ o bytes status h. Emits-late bytes o.left_after (named circuit) o.out_before o.out_after status h

@@ -19,6 +19,7 @@ sides o = record { tape_before = o.tape_before; tape_after = o.tape_after; wante
 -- the job reads no key file
 abbrev pub LeavesKeys : Job → Type 0
 LeavesKeys (jobs.Enc task order) = ⊥
+LeavesKeys (jobs.Mac task order) = ⊥
 LeavesKeys (jobs.Split order) = ⊥
 LeavesKeys (jobs.Join order) = ⊥
 LeavesKeys job = Unit {0}
@@ -26,6 +27,7 @@ LeavesKeys job = Unit {0}
 -- the job reads no input, or ended before it read any
 abbrev pub LeavesInput : Job → Status → Type 0
 LeavesInput (jobs.Enc task order) status = IsOfKeys status
+LeavesInput (jobs.Mac task order) status = IsOfKeys status
 LeavesInput (jobs.Split order) status = Unit {0}
 LeavesInput (jobs.Join order) status = Unit {0}
 LeavesInput (jobs.Emit circuit) status = Unit {0}
@@ -35,6 +37,7 @@ LeavesInput job status = ⊥
 -- the job left the tape as it was: it has nothing to do with it, or ended before it was asked for anything
 abbrev pub LeavesTape : Job → Status → Type 0
 LeavesTape (jobs.Enc task order) status = IsOfKeys status
+LeavesTape (jobs.Mac task order) status = IsOfKeys status
 LeavesTape (jobs.Eval order) Done = ⊥
 LeavesTape (jobs.Eval order) TapeFault = ⊥
 LeavesTape (jobs.Eval order) WriteFault = ⊥
@@ -47,6 +50,7 @@ LeavesTape job status = Unit {0}
 -- the job left the watch as it was: it wasn't even made ready
 abbrev pub LeavesWatch : Job → Status → Type 0
 LeavesWatch (jobs.Enc task order) status = IsOfKeys status
+LeavesWatch (jobs.Mac task order) status = IsOfKeys status
 LeavesWatch (jobs.Eval order) Done = ⊥
 LeavesWatch (jobs.Eval order) TapeFault = ⊥
 LeavesWatch (jobs.Eval order) WriteFault = ⊥
@@ -57,6 +61,7 @@ LeavesWatch job status = Unit {0}
 -- the job told the watch nothing
 abbrev pub TellsNothing : Job → Status → Type 0
 TellsNothing (jobs.Enc task order) status = IsOfKeys status
+TellsNothing (jobs.Mac task order) status = IsOfKeys status
 TellsNothing (jobs.Eval order) Done = ⊥
 TellsNothing (jobs.Eval order) WriteFault = ⊥
 TellsNothing (jobs.SelfRun seed count order) status = ⊥
@@ -65,6 +70,7 @@ TellsNothing job status = Unit {0}
 -- the job wrote nothing
 abbrev pub WritesNothing : Job → Status → Type 0
 WritesNothing (jobs.Enc task order) status = IsOfKeys status
+WritesNothing (jobs.Mac task order) status = IsOfKeys status
 WritesNothing job Done = ⊥
 WritesNothing job WriteFault = ⊥
 WritesNothing job status = Unit {0}

@@ -4,6 +4,7 @@ use Rattle.std.specs.declared.option.Option.{Option}
 use Rattle.std.specs.Io.KnownBytes.{Consumes}
 use Rattle.mask_circuit.specs.Netlist.{Netlist}
 use Rattle.mask_check.specs.Costs.{most_steps}
+use Rattle.mask_tasks.specs.declared.tasks.Task.{Task}
 use Rattle.mask_tasks.specs.Tasks.{key_bytes, longest_message}
 use Rattle.mask_keys.specs.declared.files.KeyLength.{KeyLength}
 use Rattle.mask_keys.specs.declared.files.KeyLength.TheVariants.{Exactly, Any}
@@ -41,6 +42,11 @@ pub data Kind : Type 1 where
   -- the words alone, with so many steps at most
   OnWords : (cost : ℕ) → (Did : Outside → Status → Type 0) → Kind
 
+-- a message under a key, by this task at this order
+abbrev pub on_message : Task → ℕ → Kind
+on_message task order = OnKeys (suc order) (Exactly (key_bytes task)) (Some (longest_message task))
+    (most_run_steps task) (λ o lines bytes status. Streams task (suc order) lines bytes o status)
+
 -- the promise of each job
 abbrev pub kind_of : Job → List Word → Kind
 kind_of (jobs.Eval order) words = OnCircuit (Grammar ∷ Inputs (word_at words 5) ∷ Acceptance ∷ [])
@@ -51,8 +57,8 @@ kind_of jobs.Upgrade words = OnCircuit (Grammar ∷ [])
     (λ c. 0) (λ c. 0) (λ o text status. PrintsSpelling text o.out_before o.out_after status)
 kind_of (jobs.Probe order) words = OnCircuit (Grammar ∷ Acceptance ∷ Probes order (wires_of words) ∷ [])
     most_steps (λ c. 0) (λ o text status. PrintsNeed text order (wires_of words) o.out_before o.out_after status)
-kind_of (jobs.Enc task order) words = OnKeys (suc order) (Exactly (key_bytes task)) (Some (longest_message task))
-    (most_run_steps task) (λ o lines bytes status. Streams task (suc order) lines bytes o status)
+kind_of (jobs.Enc task order) words = on_message task order
+kind_of (jobs.Mac task order) words = on_message task order
 kind_of (jobs.Split order) words = OnKeys 1 Any None (λ n. 0) (λ o lines bytes status. Splits order (only_line lines) (sides o) status)
 kind_of (jobs.Join order) words = OnKeys (suc order) Any None (λ n. 0) (λ o lines bytes status. Joins o.out_before o.out_after lines status)
 kind_of (jobs.Emit circuit) words = OnWords (most_steps (named circuit)) (λ o status. Emits (named circuit) o.out_before o.out_after status)

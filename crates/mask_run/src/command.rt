@@ -193,6 +193,9 @@ fn run_job<K: Source, S: Source, E: Entropy, O: Sink, W: Watch, L: Ledger>(
         Job::Enc { task, order } => {
             return enc(alloc, &task, order, keys, input, tape, out, watch, steps);
         }
+        Job::Mac { task, order } => {
+            return enc(alloc, &task, order, keys, input, tape, out, watch, steps);
+        }
         Job::Split { order } => return split(alloc, order, keys, tape, out),
         Job::Join { order } => return join(order, keys, out),
         Job::Emit { circuit } => return emit(alloc, circuit, out, steps),

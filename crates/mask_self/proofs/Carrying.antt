@@ -37,7 +37,7 @@ module _ (task : Task) (cipher : IsCipher (method_of task)) (front : List ℕ) (
       (later : List Step) × (plan task (front ++ more) ≡ (fed_steps (method_of task) front ++ due_behind task front) ++ later)
   due-first more some =
       let steps = fed_steps (method_of task) front in
-      let due = ciphers_go_on.begins task cipher (length front) more true some in (
+      let due = ciphers_go_on.begins task (length front) more true (λ is. some) in (
         due.0,
         plan-more more ∙ ap (λ (next : List Step). steps ++ next) due.1 ∙ sym (append_assoc steps (due_behind task front) due.0),
       )

@@ -4,7 +4,7 @@ use Rattle.std.proofs.lemmas.Bool.{eqb-false}
 use Rattle.std.proofs.Math.Nat.{mul-le-mul_right}
 use Rattle.mask_circuit.proofs.Places.{length-each}
 use Rattle.mask_tasks.specs.declared.tasks.Task.{Task}
-use Rattle.mask_tasks.specs.declared.tasks.Task.TheVariants.{Present, Lea, Trivium}
+use Rattle.mask_tasks.specs.declared.tasks.Task.TheVariants.{Present, Lea, Trivium, LightMac, Chaskey}
 use Rattle.mask_parts.specs.CipherCircuits.{gate_bits}
 use Rattle.mask_modes.specs.CounterMode.{block_count}
 use Rattle.mask_modes.specs.Steps.{Mode, ahead_of, block_at, block_step, blocks, refresh_step, steps_from, steps_of}
@@ -67,3 +67,5 @@ unfolding total
 totals_grow (Present size iv) is d m n le = counter_bits-grow 64 _ _ d ((m + 7) / 8) ((n + 7) / 8) (omega arith)
 totals_grow (Lea size iv) is d m n le = counter_bits-grow 128 _ _ d ((m + 15) / 16) ((n + 15) / 16) (omega arith)
 totals_grow (Trivium iv) is d m n le = stream_bits-grow d ((m + 7) / 8) ((n + 7) / 8) (omega arith)
+totals_grow (LightMac size counter tag) is d m n le = absurd is
+totals_grow (Chaskey tag) is d m n le = absurd is

@@ -18,7 +18,7 @@ use Rattle.mask_status.specs.declared.status.Status.TheVariants.{Done, Refused, 
 use Rattle.mask_status.specs.Ends.{is_read_fault}
 use Rattle.mask_io.specs.Outside.{faults_after}
 use Rattle.mask_message.specs.Outside.{Outside}
-use Rattle.mask_message.specs.Encrypting.{Encrypts, RanSteps, Streams, WroteBatches}
+use Rattle.mask_message.specs.Encrypting.{Encrypts, RanSteps, StreamsOut, WroteBatches}
 use Rattle.mask_message.specs.Encrypting as run
 use Rattle.mask_message.specs.Counting.{most_run_steps}
 use Rattle.mask_self.specs.Selves.{RunsWhole, FailsToDraw, BreaksOff}
@@ -89,7 +89,7 @@ module _ (task : Task) (is : IsTask task) (cipher : IsCipher (method_of task)) (
 
   -- every other status but Done is want of memory: the message isn't too long, and its source never fails
   pub breaks_off : length message ≤ longest_message task → (status : Status) → (status ≡ Done → ⊥) → (status ≡ TapeFault → ⊥) → is_read_fault status ≡ false →
-      Streams task N lines bytes o status → BreaksOff task N lines message o
+      StreamsOut task N lines bytes o status → BreaksOff task N lines message o
   breaks_off short Done done tape read e = absurd (done refl)
   breaks_off short TapeFault done tape read e = absurd (tape refl)
   breaks_off short WriteFault done tape read e = ran-whole e.whole e.ran
@@ -135,14 +135,14 @@ never_fails status counts = go (is_read_fault status) counts
 -- STEPS
 
 -- no more were counted than for the whole message
-pub within_whole : (task : Task) (message bytes rest : List ℕ) (count before now : ℕ) → length message ≡ count → message ≡ bytes ++ rest →
+pub within_whole : (task : Task) → IsCipher (method_of task) → (message bytes rest : List ℕ) (count before now : ℕ) → length message ≡ count → message ≡ bytes ++ rest →
     now ≤ before + most_run_steps task (length bytes) → now ≤ before + most_run_steps task count
-within_whole task message bytes rest count before now size came few =
-    omega (arith, gates_go_on.grow task (length bytes) count (omega (arith, ap length came, length-append bytes rest)))
+within_whole task cipher message bytes rest count before now size came few =
+    omega (arith, gates_go_on.grow task cipher (length bytes) count (omega (arith, ap length came, length-append bytes rest)))
 
 -- LENGTHS
 
 -- a ciphertext is as long as its message
-pub length-output : (task : Task) (lines : List (List ℕ)) (message : List ℕ) → line_length lines ≡ key_bytes task → length (output task (joined lines) message) ≡ length message
-length-output task lines message long =
-    outputs_are_ciphertexts.as_long task (joined lines) message (length-each (λ b. unmasked words (map (λ (line : List ℕ). get_or line b 0) lines)) (line_length lines) ∙ long)
+pub length-output : (task : Task) → IsCipher (method_of task) → (lines : List (List ℕ)) (message : List ℕ) → line_length lines ≡ key_bytes task → length (output task (joined lines) message) ≡ length message
+length-output task cipher lines message long =
+    outputs_are_ciphertexts.as_long task cipher (joined lines) message (length-each (λ b. unmasked words (map (λ (line : List ℕ). get_or line b 0) lines)) (line_length lines) ∙ long)

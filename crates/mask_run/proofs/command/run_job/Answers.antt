@@ -35,6 +35,12 @@ returns-in-Enc-clause-ends g c =
     rw c.in-Enc.is
     (record { keys = run.keys; keys_taken = run.keys_taken; bytes = run.bytes; taken = run.taken; ends = run.ends; costs = run.counted; asks = tt })
 
+pub returns-in-Mac-clause-ends : goal.returns-in-Mac-clause-ends
+returns-in-Mac-clause-ends g c =
+    let run = c.enc.ensures.ends in
+    rw c.in-Mac.is
+    (record { keys = run.keys; keys_taken = run.keys_taken; bytes = run.bytes; taken = run.taken; ends = run.ends; costs = run.counted; asks = tt })
+
 pub returns-in-Split-clause-ends : goal.returns-in-Split-clause-ends
 returns-in-Split-clause-ends g c =
     let taken = c.split.ensures.ends in
@@ -80,6 +86,12 @@ returns-in-Enc-clause-secure g c =
     let told = c.enc.ensures.secure in
     let order = rw c.in-Enc.is at c.requires.order in
     TellsSecureCalls-strong c.in-Enc.order _ _ order.0 order.1 told.0 told.1 told.2
+
+pub returns-in-Mac-clause-secure : goal.returns-in-Mac-clause-secure
+returns-in-Mac-clause-secure g c =
+    let told = c.enc.ensures.secure in
+    let order = rw c.in-Mac.is at c.requires.order in
+    TellsSecureCalls-strong c.in-Mac.order _ _ order.0 order.1 told.0 told.1 told.2
 
 pub returns-in-SelfRun-clause-secure : goal.returns-in-SelfRun-clause-secure
 returns-in-SelfRun-clause-secure g c =
