@@ -22,3 +22,5 @@ mod runs;
 mod selves;
 #[cfg(test)]
 mod sizes;
+#[cfg(test)]
+mod tagging;
