@@ -3,4 +3,5 @@ mod Places
 mod Sizes
 mod StepExamples
 mod Streaming
+mod Tagging
 mod Taking

@@ -20,7 +20,7 @@ use Rattle.mask_streams.proofs.Plans.{plans_are_strong}
 use Rattle.mask_chain.specs.Chains as chain
 use Rattle.mask_keystream.specs.Streaming.{Between}
 use Rattle.mask_keystream.proofs.Pieces.{steps_of_piece}
-use Rattle.mask_ciphers.specs.Methods.{Method, InCounterMode, AsStream, batch, gates_of, next_gates}
+use Rattle.mask_ciphers.specs.Methods.{Method, InCounterMode, AsStream, AsCode, batch, gates_of, next_gates}
 use Rattle.mask_ciphers.specs.Laws.{IsSound}
 use Rattle.mask_plan.specs.declared.runs.TaskRun.TheVariants.{Stream}
 use Rattle.mask_plan.specs.Inside.{AreStreamed, GoesOn, IsBy, Stopped, Took}
@@ -74,6 +74,7 @@ took N (AsStream iv) place run run' fed piece last a b two ten stand on r few la
       ∙ bits_stand N iv ten run fed on run' piece a b two r few lanes long k p within small;
 }
 took N (InCounterMode m cipher) place run run' fed piece last a b two is stand on r few lanes long = absurd on
+took N (AsCode code) place run run' fed piece last a b two is stand on r few lanes long = absurd on
 
 -- behind a whole block the run goes on
 pub goes_on : (N : ℕ) (method : Method) (run run' : Between) (fed : ℕ) (piece : List ℕ) (a b : Stand) → 2 ≤ N → IsSound method → GoesOn N method fed (Stream run) →
@@ -88,26 +89,31 @@ goes_on N (AsStream iv) run run' fed piece a b two ten on r same long all =
       state = λ some. long;
     }
 goes_on N (InCounterMode m cipher) run run' fed piece a b two is on r same long all = absurd on
+goes_on N (AsCode code) run run' fed piece a b two is on r same long all = absurd on
 
 -- the run is one by the method as long as its IV stays
 pub is_by : (N : ℕ) (method : Method) (run run' : Between) (fed : ℕ) → GoesOn N method fed (Stream run) → run'.iv ≡ run.iv → IsBy N method (Stream run')
 is_by N (AsStream iv) run run' fed on same = same ∙ on.iv_is
 is_by N (InCounterMode m cipher) run run' fed on same = absurd on
+is_by N (AsCode code) run run' fed on same = absurd on
 
 -- what its steps need
 pub state_there : (N : ℕ) (method : Method) (run : Between) (fed : ℕ) → GoesOn N method fed (Stream run) → 0 < fed → length run.held.state ≡ 352
 state_there N (AsStream iv) run fed on = on.state
 state_there N (InCounterMode m cipher) run fed on = absurd on
+state_there N (AsCode code) run fed on = absurd on
 
 pub block_fits : (N : ℕ) (method : Method) (run : Between) (fed n : ℕ) → GoesOn N method fed (Stream run) → n ≤ batch method → n ≤ 8
 block_fits N (AsStream iv) run fed n on few = few
 block_fits N (InCounterMode m cipher) run fed n on few = absurd on
+block_fits N (AsCode code) run fed n on few = absurd on
 
 -- the gates of its steps are those of the method's
 pub gates_are : (N : ℕ) (method : Method) (run : Between) (fed : ℕ) (piece : List ℕ) (last : Bool) → GoesOn N method fed (Stream run) →
     gates_of (steps_behind run.iv fed piece) ≡ next_gates method fed piece last
 gates_are N (AsStream iv) run fed piece last on = ap (λ (v : List ℕ). gates_of (steps_behind v fed piece)) on.iv_is
 gates_are N (InCounterMode m cipher) run fed piece last on = absurd on
+gates_are N (AsCode code) run fed piece last on = absurd on
 
 pub stopped : (N : ℕ) (method : Method) (run run' : Between) (fed : ℕ) (piece : List ℕ) (last : Bool) (wanted counted counted' : ℕ) (a b : Stand) →
     GoesOn N method fed (Stream run) → 1 ≤ length piece → length piece ≤ batch method →
@@ -128,3 +134,4 @@ stopped N (AsStream iv) run run' fed piece last wanted counted counted' a b on s
       counts = rw (← on.iv_is) stop.counts;
     }
 stopped N (InCounterMode m cipher) run run' fed piece last wanted counted counted' a b on some few stop = absurd on
+stopped N (AsCode code) run run' fed piece last wanted counted counted' a b on some few stop = absurd on

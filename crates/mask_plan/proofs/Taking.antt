@@ -25,12 +25,12 @@ use Rattle.mask_modes.proofs.Keystreams.{length-ciphertext, makes_blocks}
 use Rattle.mask_modes.proofs.Encrypting.{steps_encrypt}
 use Rattle.mask_modes.proofs.HandedOut.{outputs_are_bits}
 use Rattle.mask_counter.specs.Batches.{Between, BatchRan, BatchStopped, have, mode}
-use Rattle.mask_ciphers.specs.Methods.{Method, InCounterMode, AsStream, batch, batch_gates, gates_of, key_width, next_gates}
+use Rattle.mask_ciphers.specs.Methods.{Method, InCounterMode, AsStream, AsCode, IsCipher, batch, batch_gates, gates_of, key_width, next_gates}
 use Rattle.mask_ciphers.specs.Laws.{IsSound}
 use Rattle.mask_ciphers.specs.Tasks.{method_of}
 use Rattle.mask_streams.proofs.Keystreams.{output_fits as stream_fits}
 use Rattle.mask_plan.specs.declared.runs.TaskRun.{TaskRun}
-use Rattle.mask_plan.specs.declared.runs.TaskRun.TheVariants.{Counter, Stream}
+use Rattle.mask_plan.specs.declared.runs.TaskRun.TheVariants.{Counter, Stream, Tag}
 use Rattle.mask_plan.specs.declared.session.Stop.{Stop}
 use Rattle.mask_plan.specs.Sessions.{Refuses, stop_of}
 use Rattle.mask_plan.specs.Inside.{AreEncrypted, Begin, GoesOn, IsBy, Stopped, Took, progress}
@@ -38,7 +38,9 @@ use Rattle.mask_trace.proofs.Drawing.{runs_join}
 use Rattle.mask_ciphers.proofs.Gates.{refresh-gates}
 use Rattle.mask_ciphers.proofs.Batches.{batches_are_groups, block_of_byte, blocks_are_few, blocks_follow}
 use Rattle.mask_modes.proofs.BlockCounts.{block_count-whole}
+use Rattle.mask_tagging.specs.Runs.{between}
 use Rattle.mask_plan.proofs.Places.{Places}
+use Rattle.mask_plan.proofs.Tagging.{begins_tagged}
 
 -- IN COUNTER MODE
 
@@ -103,6 +105,7 @@ took N (InCounterMode m cipher) place run run' fed piece last a b two is stand o
       outputs_stand N m cipher is run fed on run' piece a b two r place stand are k p (subst (λ (n : ℕ). k < n) long lt) small;
 }
 took N (AsStream iv) place run run' fed piece last a b two is stand on r are = absurd on
+took N (AsCode code) place run run' fed piece last a b two is stand on r are = absurd on
 
 -- behind another whole batch the run goes on
 pub goes_on : (N : ℕ) (method : Method) (run run' : Between) (fed : ℕ) (piece : List ℕ) (a b : Stand) → 2 ≤ N → IsSound method → GoesOn N method fed (Counter run) →
@@ -117,11 +120,13 @@ goes_on N (InCounterMode m cipher) run run' fed piece a b two is on r done all =
   has_key = (key_stays N m cipher is run fed on run' piece a b two r).0;
 }
 goes_on N (AsStream iv) run run' fed piece a b two is on r done all = absurd on
+goes_on N (AsCode code) run run' fed piece a b two is on r done all = absurd on
 
 -- the run is one by the method as long as its mode stays
 pub is_by : (N : ℕ) (method : Method) (run run' : Between) (fed : ℕ) → GoesOn N method fed (Counter run) → mode run' ≡ mode run → IsBy N method (Counter run')
 is_by N (InCounterMode m cipher) run run' fed on same = same ∙ on.in_mode
 is_by N (AsStream iv) run run' fed on same = absurd on
+is_by N (AsCode code) run run' fed on same = absurd on
 
 -- the gates of the run's circuits are those of the method's
 pub gates_are : (N : ℕ) (method : Method) (run : Between) (fed : ℕ) (piece : List ℕ) (last : Bool) → GoesOn N method fed (Counter run) →
@@ -129,6 +134,7 @@ pub gates_are : (N : ℕ) (method : Method) (run : Between) (fed : ℕ) (piece :
 gates_are N (InCounterMode m cipher) run fed piece last on =
     ap₂ (λ (n : Mode) (i : ℕ). batch_gates n i piece) on.in_mode on.done_is
 gates_are N (AsStream iv) run fed piece last on = absurd on
+gates_are N (AsCode code) run fed piece last on = absurd on
 
 pub stopped : (N : ℕ) (method : Method) (run : Between) (fed : ℕ) (piece : List ℕ) (last : Bool) (wanted counted counted' : ℕ) (a b : Stand) → GoesOn N method fed (Counter run) →
     BatchStopped N run piece wanted counted counted' a b → Stopped N method fed piece last (Counter run) wanted counted counted' a b
@@ -150,20 +156,24 @@ stopped N (InCounterMode m cipher) run fed piece last wanted counted counted' a 
           (ap (λ (n : Mode). stop.count * length n.refresh.gates) on.in_mode ∙ sym (refresh-gates m (block_count m.block fed) stop.count few));
     }
 stopped N (AsStream iv) run fed piece last wanted counted counted' a b on stop = absurd on
+stopped N (AsCode code) run fed piece last wanted counted counted' a b on stop = absurd on
 
 -- a batch fits
 pub batch_fits : (N : ℕ) (method : Method) (run : Between) (fed n : ℕ) → IsSound method → GoesOn N method fed (Counter run) → n ≤ batch method → n ≤ 64 * run.block
 batch_fits N (InCounterMode m cipher) run fed n is on few = subst (λ (r : Mode). n ≤ 64 * r.block) (sym on.in_mode) few
 batch_fits N (AsStream iv) run fed n is on few = absurd on
+batch_fits N (AsCode code) run fed n is on few = absurd on
 
 pub few_done : (N : ℕ) (method : Method) (run : Between) (fed most : ℕ) → IsSound method → GoesOn N method fed (Counter run) → fed ≤ most → run.done ≤ most
 few_done N (InCounterMode m cipher) run fed most is on few = omega (arith, on.done_is, blocks_are_few m.block fed is.circuits.some)
 few_done N (AsStream iv) run fed most is on few = absurd on
+few_done N (AsCode code) run fed most is on few = absurd on
 
 pub groups_done : (N : ℕ) (method : Method) (run : Between) (fed : ℕ) → IsSound method → GoesOn N method fed (Counter run) → run.done % 64 ≡ 0
 groups_done N (InCounterMode m cipher) run fed is on =
     ap (λ (n : ℕ). n % 64) on.done_is ∙ batches_are_groups m.block fed is.circuits.some on.whole
 groups_done N (AsStream iv) run fed is on = absurd on
+groups_done N (AsCode code) run fed is on = absurd on
 
 -- NO BYTES
 
@@ -176,23 +186,26 @@ unfolding steps_from
 no_steps m i piece some none =
     ap (λ (n : ℕ). steps_from m i (each (block_at m.block piece) n)) (none_counted m.block (length piece) some (ap length none))
 
-pub took_none : (N : ℕ) (method : Method) (place : ℕ → ℕ → ℕ) (run : TaskRun N) (fed : ℕ) (last : Bool) (a : Stand) → IsSound method → GoesOn N method fed run →
+pub took_none : (N : ℕ) (method : Method) (place : ℕ → ℕ → ℕ) (run : TaskRun N) (fed : ℕ) (last : Bool) (a : Stand) → IsSound method → IsCipher method → GoesOn N method fed run →
     length a.kept < 8 → Took N method place fed [] last run run a a
 unfolding ciphertext_from value_after
-took_none N (InCounterMode m cipher) place (Counter run) fed last a is on few =
+took_none N (InCounterMode m cipher) place (Counter run) fed last a is writes on few =
     let none = no_steps m (block_count m.block fed) [] is.circuits.some refl in
     record {
       ran = rw none (runs_join.none N (have run) a few);
       values = rw none refl;
       stand = λ k p lt small. absurd (omega (arith, lt));
     }
-took_none N (AsStream iv) place (Stream run) fed last a is on few = record {
+took_none N (AsStream iv) place (Stream run) fed last a is writes on few = record {
   ran = runs_join.none N run.held a few;
   values = refl;
   stand = λ k p lt small. absurd (omega (arith, lt, stream_fits.piece_as_long iv (values_of run.held) fed []));
 }
-took_none N (InCounterMode m cipher) place (Stream run) fed last a is on few = absurd on
-took_none N (AsStream iv) place (Counter run) fed last a is on few = absurd on
+took_none N (InCounterMode m cipher) place (Stream run) fed last a is writes on few = absurd on
+took_none N (InCounterMode m cipher) place (Tag run) fed last a is writes on few = absurd on
+took_none N (AsStream iv) place (Counter run) fed last a is writes on few = absurd on
+took_none N (AsStream iv) place (Tag run) fed last a is writes on few = absurd on
+took_none N (AsCode code) place run fed last a is writes on few = absurd writes
 
 -- a run goes on from its beginning
 pub begins : (N : ℕ) (method : Method) (shares : List BitShares) (run : TaskRun N) → IsSound method → Begin method shares run →
@@ -209,14 +222,24 @@ begins N (AsStream iv) shares (Stream run) is begin has = record {
   has_key = subst (λ (now : Registers BitShares). HasShares N 80 (length now.state) now) (sym begin.held_is) has;
   state = λ lt. absurd (omega (arith, lt));
 }
+begins N (AsCode code) shares (Tag run) is begin has = begins_tagged N code shares (between run) begin.code_is begin.held_is has
 begins N (InCounterMode m cipher) shares (Stream run) is begin has = absurd begin
+begins N (InCounterMode m cipher) shares (Tag run) is begin has = absurd begin
 begins N (AsStream iv) shares (Counter run) is begin has = absurd begin
+begins N (AsStream iv) shares (Tag run) is begin has = absurd begin
+begins N (AsCode code) shares (Counter run) is begin has = absurd begin
+begins N (AsCode code) shares (Stream run) is begin has = absurd begin
 
 pub begins_by : {N : ℕ} (method : Method) (shares : List BitShares) (run : TaskRun N) → Begin method shares run → IsBy N method run
 begins_by (InCounterMode m cipher) shares (Counter run) begin = begin.in_mode
 begins_by (AsStream iv) shares (Stream run) begin = begin.iv_is
+begins_by (AsCode code) shares (Tag run) begin = begin.code_is
 begins_by (InCounterMode m cipher) shares (Stream run) begin = absurd begin
+begins_by (InCounterMode m cipher) shares (Tag run) begin = absurd begin
 begins_by (AsStream iv) shares (Counter run) begin = absurd begin
+begins_by (AsStream iv) shares (Tag run) begin = absurd begin
+begins_by (AsCode code) shares (Counter run) begin = absurd begin
+begins_by (AsCode code) shares (Stream run) begin = absurd begin
 
 -- why a call was refused in which the tape failed, or memory
 pub refuses : (N : ℕ) (task : Task) (run : TaskRun N) (fed written : ℕ) (closed : Option Stop) (ended : Bool) (piece : List ℕ) (last : Bool)

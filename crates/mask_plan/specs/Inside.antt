@@ -16,10 +16,13 @@ use Rattle.mask_modes.specs.Steps.{Mode}
 use Rattle.mask_modes.specs.Outputs.{HasKey}
 use Rattle.mask_counter.specs.Batches.{Between, have, mode}
 use Rattle.mask_keystream.specs.Streaming as stream
+use Rattle.mask_macs.specs.Codes.{Code, ArePieces}
+use Rattle.mask_tagging.specs.Tagging as tagging
+use Rattle.mask_tagging.specs.Runs.{between}
 use Rattle.mask_ciphers.specs.Methods as methods
 use Rattle.mask_ciphers.specs.Tasks.{method_of}
 use Rattle.mask_plan.specs.declared.runs.TaskRun.{TaskRun}
-use Rattle.mask_plan.specs.declared.runs.TaskRun.TheVariants.{Counter, Stream}
+use Rattle.mask_plan.specs.declared.runs.TaskRun.TheVariants.{Counter, Stream, Tag}
 use Rattle.mask_plan.specs.declared.session.Stop.{Stop}
 use Rattle.mask_plan.specs.Sessions.{Progress}
 
@@ -27,15 +30,18 @@ use Rattle.mask_plan.specs.Sessions.{Progress}
 abbrev pub held : {N : ℕ} → TaskRun N → Registers BitShares
 held (Counter run) = have run
 held (Stream run) = run.held
+held (Tag run) = (between run).held
 
 abbrev pub outputs : {N : ℕ} → TaskRun N → List (List ℕ)
 outputs (Counter run) = run.outputs
 outputs (Stream run) = run.outputs
+outputs (Tag run) = (between run).outputs
 
--- as many as a block has bits, or a step of Trivium outputs
+-- as many as a block has bits, or a step of Trivium outputs, or the state of a code
 abbrev pub HasOutputs : {N : ℕ} → TaskRun N → Type 0
 HasOutputs (Counter run) = length run.outputs ≡ 8 * run.block
 HasOutputs (Stream run) = length run.outputs ≡ 352
+HasOutputs (Tag run) = length (between run).outputs ≡ (tagging.code_of (between run).scheme).state_bits
 
 -- how a session stands whose parts these are
 abbrev pub progress : {N : ℕ} → Task → TaskRun N → ℕ → Option Stop → Bool → ℕ → Progress
@@ -60,16 +66,23 @@ pub record BeginsStream (iv : List ℕ) (shares : List BitShares) (run : stream.
   pub iv_is : run.iv ≡ iv
   pub held_is : run.held ≡ record { key = shares; state = [] }
 
+-- a run of this code
+pub record BeginsTag (code : Code) (shares : List BitShares) (run : tagging.Between) : Type 0 where
+  pub code_is : tagging.code_of run.scheme ≡ code
+  pub held_is : run.held ≡ record { key = shares; state = [] }
+
 -- a run by this method, with these shares of the key, ahead of the message
 abbrev pub Begin : {N : ℕ} → methods.Method → List BitShares → TaskRun N → Type 0
 Begin (methods.InCounterMode m cipher) shares (Counter run) = BeginsRun m shares run
 Begin (methods.AsStream iv) shares (Stream run) = BeginsStream iv shares run
+Begin (methods.AsCode code) shares (Tag run) = BeginsTag code shares (between run)
 Begin method shares run = ⊥
 
 -- A run by this method, which may be over.
 abbrev pub IsBy : (N : ℕ) → methods.Method → TaskRun N → Type 0
 IsBy N (methods.InCounterMode m cipher) (Counter run) = mode run ≡ m
 IsBy N (methods.AsStream iv) (Stream run) = run.iv ≡ iv
+IsBy N (methods.AsCode code) (Tag run) = tagging.code_of (between run).scheme ≡ code
 IsBy N method run = ⊥
 
 -- It took so many bytes of a message, whole batches, and goes on: the key is there, in N shares of each bit.
@@ -86,9 +99,17 @@ pub record AreStreamed (N : ℕ) (iv : List ℕ) (fed : ℕ) (run : stream.Betwe
   pub has_key : HasShares N 80 (length run.held.state) run.held
   pub state : 0 < fed → length run.held.state ≡ 352
 
+-- the same of a code, and whole pieces
+pub record AreTagged (N : ℕ) (code : Code) (fed : ℕ) (run : tagging.Between) : Type 0 where
+  pub code_is : tagging.code_of run.scheme ≡ code
+  pub whole : ArePieces code fed
+  pub has_key : HasShares N (8 * code.key_bytes) (length run.held.state) run.held
+  pub state : 0 < fed → length run.held.state ≡ code.state_bits
+
 abbrev pub GoesOn : (N : ℕ) → methods.Method → ℕ → TaskRun N → Type 0
 GoesOn N (methods.InCounterMode m cipher) fed (Counter run) = AreEncrypted N m fed run
 GoesOn N (methods.AsStream iv) fed (Stream run) = AreStreamed N iv fed run
+GoesOn N (methods.AsCode code) fed (Tag run) = AreTagged N code fed (between run)
 GoesOn N method fed run = ⊥
 
 -- Behind so many bytes these were taken, the last ones or not: all their steps were evaluated, and nothing else. What is held

@@ -1,6 +1,6 @@
 //! The shares of the bits of a key, from key lines.
 
-ghost use Rattle.std.specs.Prelude.{◌≡◌, ℕ, ◌*◌, ◌<◌, ◌≤◌, false, List, length, map, slice_index_or, IfOk};
+ghost use Rattle.std.specs.Prelude.{◌≡◌, ℕ, ◌*◌, ◌<◌, ◌≤◌, false, List, ◌++◌, length, map, take, drop, slice_index_or, IfOk};
 ghost use Rattle.mask_bits.specs.Lanes.{lane};
 ghost use Rattle.mask_bits.specs.Reading.{bit, low, high};
 ghost use Rattle.mask_keys.specs.Lines.{line_length};
@@ -53,7 +53,21 @@ fn line_bit(task: &Task, line: &[u8], j: usize) -> u64
 {
     match *task {
         Task::Present { .. } => high_bit(line, j),
-        Task::Lea { .. } | Task::Trivium { .. } => low_bit(line, j),
+        Task::Lea { .. } | Task::Trivium { .. } | Task::Chaskey { .. } => low_bit(line, j),
+        Task::LightMac { size, .. } => bit_of_two(line, size.bytes() as usize, j),
+    }
+}
+
+// Bit j of two big-endian numbers, one behind the other: the first has so many bytes.
+fn bit_of_two(bytes: &[u8], front: usize, j: usize) -> u64
+    requires { j < 8 * length bytes.now }
+    ensures { bit 0 result ≡ slice_index_or (high (take front bytes.now) ++ high (drop front bytes.now)) j false }
+{
+    let (first, second) = bytes.split_at(front.min(bytes.len()));
+    if j < 8 * first.len() {
+        high_bit(first, j)
+    } else {
+        high_bit(second, j - 8 * first.len())
     }
 }
 

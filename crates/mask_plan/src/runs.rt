@@ -6,12 +6,14 @@ ghost use Rattle.mask_plan.specs.Inside.{HasOutputs, outputs};
 use mask_counter::CounterRun;
 use mask_keystream::StreamRun;
 use mask_shares::Shares;
+use mask_tagging::TagRun;
 
-/// A run of a block cipher in counter mode, or one of Trivium.
+/// A run of a block cipher in counter mode, or one of Trivium, or one of a message authentication code.
 #[derive(Drop)]
 pub enum TaskRun<const N: usize> {
     Counter(CounterRun<N>),
     Stream(StreamRun<N>),
+    Tag(TagRun<N>),
 }
 
 /// The words of the latest outputs.
@@ -22,5 +24,6 @@ pub(crate) fn outputs_of<const N: usize>(run: &TaskRun<N>) -> &[Shares<N>]
     match run {
         TaskRun::Counter(run) => run.outputs(),
         TaskRun::Stream(run) => run.outputs(),
+        TaskRun::Tag(run) => run.outputs(),
     }
 }

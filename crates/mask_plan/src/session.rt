@@ -6,13 +6,15 @@ ghost use Rattle.mask_tasks.specs.Tasks.{key_bytes, longest_message};
 ghost use Rattle.mask_keys.specs.Lines.{line_length};
 ghost use Rattle.mask_trace.specs.Drawing.{stand};
 ghost use Rattle.mask_ciphers.specs.Tasks.{method_of, with_lines};
-ghost use Rattle.mask_ciphers.specs.Methods.{start_steps};
-ghost use Rattle.mask_plan.specs.Sessions.{Answers, Begins, batch_length, block_length, out_words, failed_to_draw, stop_of};
+ghost use Rattle.mask_ciphers.specs.Methods.{IsCipher, MayEnd, start_steps};
+ghost use Rattle.mask_plan.specs.Sessions.{Answers, Begins, batch_length, block_length, known_bytes, out_words, failed_to_draw, stop_of};
 
 use crate::keys::shares_of_key;
 use crate::pieces::take_piece;
 use crate::runs::{TaskRun, outputs_of};
-use crate::tasks::{bytes_at_once, bytes_of_block, place_in_block, run_of};
+use crate::tasks::{
+    bytes_at_once, bytes_known_behind, bytes_of_block, bytes_written, makes_tag, place_in_block, run_of,
+};
 use mask_ciphers::lines_share_keys;
 use mask_circuit::Steps;
 use mask_eval::Watch;
@@ -98,15 +100,16 @@ impl<const N: usize> Session<N> {
         })
     }
 
-    /// How many bytes `feed` takes: 512 for PRESENT, which is 64 blocks of 8 bytes, 1,024 for LEA, which is 64 blocks of 16, and 8 for
-    /// Trivium.
+    /// How many bytes `feed` takes: 512 for PRESENT, which is 64 blocks of 8 bytes, 1,024 for LEA, which is 64 blocks of 16, 8 for
+    /// Trivium, 8 less the bytes of a counter for LightMAC, and 16 for Chaskey-12.
     pub fn batch_bytes(&self) -> usize
         ensures { result ≡ batch_length self.now.task }
     {
         bytes_at_once(&self.task)
     }
 
-    /// Takes the next bytes of the message, as many as [`Session::batch_bytes`] says, and encrypts them.
+    /// Takes the next bytes of the message, as many as [`Session::batch_bytes`] says, and encrypts them. For a code one more byte of the
+    /// message is known.
     ///
     /// It is refused with `Closed` after any refusal, and then, in this order, where the message is too long, where there is no
     /// memory, and where the tape fails. All memory is taken before the tape is asked.
@@ -124,7 +127,7 @@ impl<const N: usize> Session<N> {
             (stand tape.old (E.left entropy.old) (W.told watch.old)) (stand tape.new (E.left entropy.new) (W.told watch.new)) result }
         ensures closed { (stop : Stop) → self.old.closed ≡ Some stop → (result ≡ Err (PlanError.Closed stop))
             × (tape.new ≡ tape.old) × (entropy.new ≡ entropy.old) × (watch.new ≡ watch.old) }
-        ensures long { self.old.closed ≡ None → longest_message self.old.task < self.old.fed + length piece.now →
+        ensures long { self.old.closed ≡ None → longest_message self.old.task < known_bytes self.old piece.now false →
             (result ≡ Err (PlanError.Refused (Stop.TooLong (longest_message self.old.task))))
             × (tape.new ≡ tape.old) × (entropy.new ≡ entropy.old) × (watch.new ≡ watch.old) }
         ensures no_memory { result ≡ Err (PlanError.Refused Stop.NoMemory) → (tape.new ≡ tape.old) × (entropy.new ≡ entropy.old) }
@@ -135,7 +138,8 @@ impl<const N: usize> Session<N> {
     }
 
     /// Takes the last bytes of the message, up to as many as [`Session::batch_bytes`] says, and encrypts them. After Ok the
-    /// session has ended. It is refused as `feed` is; with no bytes nothing is evaluated.
+    /// session has ended. It is refused as `feed` is. With no bytes of a cipher nothing is evaluated; for a code they are none only where
+    /// the message is.
     pub fn end<E: Entropy, W: Watch, L: Ledger>(
         &mut self,
         piece: &[u8],
@@ -146,14 +150,15 @@ impl<const N: usize> Session<N> {
     ) -> Result<(), PlanError>
         requires unended { self.old.ended ≡ false }
         requires last { length piece.now ≤ batch_length self.old.task }
+        requires may_end { MayEnd (method_of self.old.task) self.old.fed piece.now }
         ensures answers { Answers N self.old self.new piece.now true (E.wanted entropy.new) steps.old steps.new
             (stand tape.old (E.left entropy.old) (W.told watch.old)) (stand tape.new (E.left entropy.new) (W.told watch.new)) result }
         ensures closed { (stop : Stop) → self.old.closed ≡ Some stop → (result ≡ Err (PlanError.Closed stop))
             × (tape.new ≡ tape.old) × (entropy.new ≡ entropy.old) × (watch.new ≡ watch.old) }
-        ensures long { self.old.closed ≡ None → longest_message self.old.task < self.old.fed + length piece.now →
+        ensures long { self.old.closed ≡ None → longest_message self.old.task < known_bytes self.old piece.now true →
             (result ≡ Err (PlanError.Refused (Stop.TooLong (longest_message self.old.task))))
             × (tape.new ≡ tape.old) × (entropy.new ≡ entropy.old) × (watch.new ≡ watch.old) }
-        ensures nothing { piece.now ≡ [] → (tape.new ≡ tape.old) × (entropy.new ≡ entropy.old) × (watch.new ≡ watch.old) }
+        ensures nothing { IsCipher (method_of self.old.task) → piece.now ≡ [] → (tape.new ≡ tape.old) × (entropy.new ≡ entropy.old) × (watch.new ≡ watch.old) }
         ensures no_memory { result ≡ Err (PlanError.Refused Stop.NoMemory) → (tape.new ≡ tape.old) × (entropy.new ≡ entropy.old) }
         ensures wants { failed_to_draw result ≡ false → E.wanted entropy.new ≡ E.wanted entropy.old }
         ensures counts { E.faults entropy.new ≡ faults_after (failed_to_draw result) (E.faults entropy.old) }
@@ -161,11 +166,19 @@ impl<const N: usize> Session<N> {
         self.take(piece, true, tape, entropy, watch, steps)
     }
 
-    /// How many bytes a block has that is handed out: 8 for PRESENT and Trivium, and 16 for LEA.
+    /// How many bytes a block has that is handed out: 8 for PRESENT and Trivium, and 16 for LEA; or a tag.
     pub fn block_bytes(&self) -> usize
         ensures { result ≡ block_length self.now.task }
     {
         bytes_of_block(&self.task)
+    }
+
+    /// Whether the task makes a tag, which is handed out behind the last piece, and no ciphertext.
+    pub fn makes_tag(&self) -> bool
+        ensures cipher { result ≡ false → IsCipher (method_of self.now.task) }
+        ensures tag { result ≡ true → IsCipher (method_of self.now.task) → ⊥ }
+    {
+        makes_tag(&self.task)
     }
 
     // Takes these bytes, the last of the message or not.
@@ -181,14 +194,15 @@ impl<const N: usize> Session<N> {
         requires unended { self.old.ended ≡ false }
         requires few { length piece.now ≤ batch_length self.old.task }
         requires whole { last ≡ false → length piece.now ≡ batch_length self.old.task }
+        requires ends { last ≡ true → MayEnd (method_of self.old.task) self.old.fed piece.now }
         ensures answers { Answers N self.old self.new piece.now last (E.wanted entropy.new) steps.old steps.new
             (stand tape.old (E.left entropy.old) (W.told watch.old)) (stand tape.new (E.left entropy.new) (W.told watch.new)) result }
         ensures closed { (stop : Stop) → self.old.closed ≡ Some stop → (result ≡ Err (PlanError.Closed stop))
             × (tape.new ≡ tape.old) × (entropy.new ≡ entropy.old) × (watch.new ≡ watch.old) }
-        ensures long { self.old.closed ≡ None → longest_message self.old.task < self.old.fed + length piece.now →
+        ensures long { self.old.closed ≡ None → longest_message self.old.task < known_bytes self.old piece.now last →
             (result ≡ Err (PlanError.Refused (Stop.TooLong (longest_message self.old.task))))
             × (tape.new ≡ tape.old) × (entropy.new ≡ entropy.old) × (watch.new ≡ watch.old) }
-        ensures nothing { piece.now ≡ [] → (tape.new ≡ tape.old) × (entropy.new ≡ entropy.old) × (watch.new ≡ watch.old) }
+        ensures nothing { IsCipher (method_of self.old.task) → piece.now ≡ [] → (tape.new ≡ tape.old) × (entropy.new ≡ entropy.old) × (watch.new ≡ watch.old) }
         ensures no_memory { result ≡ Err (PlanError.Refused Stop.NoMemory) → (tape.new ≡ tape.old) × (entropy.new ≡ entropy.old) }
         ensures wants { failed_to_draw result ≡ false → E.wanted entropy.new ≡ E.wanted entropy.old }
         ensures counts { E.faults entropy.new ≡ faults_after (failed_to_draw result) (E.faults entropy.old) }
@@ -198,7 +212,7 @@ impl<const N: usize> Session<N> {
         }
         let limit = message_limit(&self.task);
         let length = piece.len() as u64;
-        if limit - self.fed < length {
+        if limit - self.fed < length + bytes_known_behind(&self.task, last) {
             self.closed = Some(Stop::TooLong { limit });
             return Err(PlanError::Refused(Stop::TooLong { limit }));
         }
@@ -223,7 +237,7 @@ impl<const N: usize> Session<N> {
         }
         self.fed += length;
         self.ended = last;
-        self.written = length;
+        self.written = bytes_written(&self.task, length, last);
         Ok(())
     }
 
