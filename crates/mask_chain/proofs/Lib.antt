@@ -3,3 +3,4 @@ pub mod Registers
 pub mod Evaluated
 pub mod Stopping
 pub mod Forms
+pub mod BitWords

@@ -6,10 +6,12 @@ mod evaluating;
 mod evaluations;
 mod inputs;
 mod parts;
+mod words;
 
 pub use chains::ChainRun;
 pub use evaluations::{Evaluation, Keep, Source};
 pub use parts::Part;
+pub use words::put_low_bits;
 
 #[cfg(test)]
 mod tests;

@@ -1,3 +1,3 @@
-pub mod BitWords
+pub mod Blocks
 pub mod Evaluations
 pub mod Pieces

@@ -107,7 +107,7 @@ plans_split tag = record {
 start_is_strong : (s : ℕ) → IsStrongStep 128 s start_step
 start_is_strong s = refresh_is_strong 128 s 128 AsState (omega arith) tt
 
-block_is_strong : (s : ℕ) (block : List ℕ) → 128 ≤ s → length block ≡ 16 → IsStrongStep 128 s (block_step block)
+pub block_is_strong : (s : ℕ) (block : List ℕ) → 128 ≤ s → length block ≡ 16 → IsStrongStep 128 s (block_step block)
 block_is_strong s block enough size =
     let plains = map Plain (low block) in
     let long : length plains ≡ 128 = length-map (low block) Plain ∙ (let e = length-low block in omega arith) in
@@ -122,7 +122,7 @@ block_is_strong s block enough size =
       fit = tt;
     }
 
-end_is_strong : (s : ℕ) (end : End) (bytes : List ℕ) → 128 ≤ s → length (padded end bytes) ≡ 16 →
+pub end_is_strong : (s : ℕ) (end : End) (bytes : List ℕ) → 128 ≤ s → length (padded end bytes) ≡ 16 →
     IsStrongStep 128 s (end_step end bytes)
 end_is_strong s end bytes enough size =
     let message = low (padded end bytes) in

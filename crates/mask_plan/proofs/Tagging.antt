@@ -2,9 +2,8 @@
 use Rattle.std.proofs.Common.{◌≡◌, ℕ, ◌+◌, ◌*◌, ◌/◌, ◌%◌, ◌<◌, ◌≤◌, Bool, true, false, List, [], ◌∷◌, ◌++◌, length, map, get_or, refl, sym, ap, ap₂, subst, ◌∙◌, arith}
 use Rattle.std.specs.Prelude.{slice_index}
 use Rattle.std.proofs.Math.ListN.{get_or-map}
-use Rattle.std.proofs.Math.Nat.{add-mod_left, zero-mod}
 use Rattle.std.proofs.lemmas.List.{length-map}
-use Rattle.std.proofs.lemmas.Nat.{div_below, mod_eq_of_lt}
+use Rattle.std.proofs.Math.Nat.{add-mod_left, div-eq_of_lt, mod-eq_of_lt, zero-mod}
 use Rattle.mask_bits.specs.Lanes.{lane}
 use Rattle.mask_bits.specs.Reading.{bit}
 use Rattle.mask_circuit.specs.Ring.{bits}
@@ -70,8 +69,8 @@ module _ (N : ℕ) (code : Code) (makes : MakesTags code) (run : tagging.Between
       absurd (omega (arith, lt, ap length (makes.fits.none_before (values_of run.held) fed piece)))
   output_stands place stand run' piece true next values lanes k p lt small =
       let within : k < code.tag_bytes = omega (arith, lt, makes.fits.piece_as_long (values_of run.held) fed piece) in
-      let first : k / code.tag_bytes ≡ 0 = div_below k code.tag_bytes within in
-      let same : k % code.tag_bytes ≡ k = mod_eq_of_lt k code.tag_bytes within in
+      let first : k / code.tag_bytes ≡ 0 = div-eq_of_lt within in
+      let same : k % code.tag_bytes ≡ k = mod-eq_of_lt within in
       let at : place (k % code.tag_bytes) p ≡ code.place k + p = stand (k % code.tag_bytes) p ∙ ap (λ (byte : ℕ). code.place byte + p) same in
       ap₂ (λ (l i : ℕ). unmasked bits (lane l (get_or run'.outputs i []))) first at
       ∙ bits_stand run' piece next values lanes k p within small

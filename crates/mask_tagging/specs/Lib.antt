@@ -1,1 +1,2 @@
+pub mod ChaskeyForms
 pub mod Tagging

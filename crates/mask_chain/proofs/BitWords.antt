@@ -1,13 +1,11 @@
 -- Bits of bytes as words.
-use Rattle.std.proofs.Common.{◌≡◌, ℕ, ◌+◌, ◌-◌, ◌*◌, ◌/◌, ◌%◌, ◌<◌, ◌≤◌, Bool, true, false, List, [], ◌∷◌, ◌++◌, length, take, drop, get_or, replicate, refl, sym, ap, ap₂, ◌∙◌, arith}
+use Rattle.std.proofs.Common.{◌≡◌, ℕ, ◌+◌, ◌*◌, ◌/◌, ◌%◌, ◌<◌, ◌≤◌, Bool, true, false, List, [], ◌∷◌, ◌++◌, length, take, get_or, refl, sym, ap, ap₂, ◌∙◌, arith}
 use Rattle.std.proofs.Math.ListN.{set}
-use Rattle.std.proofs.Math.Seq.{take-append-add}
-use Rattle.std.proofs.lemmas.List.{drop-replicate, map-append, take-replicate, take_all, take_more, take_more_set}
+use Rattle.std.proofs.lemmas.List.{map-append, take_all, take_more, take_more_set}
 use mir.Val.{bool_byte}
 use Rattle.mask_bits.specs.Lanes.{lane}
 use Rattle.mask_bits.specs.Reading.{bit, low}
 use Rattle.mask_bits.proofs.Bytes.{length-low, low-place}
-use Rattle.mask_modes.specs.Steps.{block_at}
 
 pub bit_of_bool : (b : Bool) → bit 0 (bool_byte b) ≡ b
 bit_of_bool true = refl
@@ -33,12 +31,3 @@ pub all_words : (bytes words : List ℕ) (j : ℕ) → length words ≡ 8 * leng
     lane 0 (take j words) ≡ take j (low bytes) → lane 0 words ≡ low bytes
 all_words bytes words j long all so_far =
     ap (lane 0) (sym (take_all j words all)) ∙ so_far ∙ take_all j (low bytes) (omega (arith, length-low bytes))
-
--- a piece that is laid over zeros is its block
-pub filled_up : (piece : List ℕ) → length piece ≤ 8 → piece ++ drop (length piece) (replicate 8 0) ≡ block_at 8 piece 0
-filled_up piece few =
-    let rest : drop (length piece) (replicate 8 0) ≡ replicate (8 - length piece) 0 = drop-replicate (length piece) 8 0 in
-    let size : length piece + (8 - length piece) ≡ 8 = omega arith in
-    ap (λ (zeros : List ℕ). piece ++ zeros) (rest ∙ sym (take-replicate (8 - length piece) 8 0 (omega arith)))
-    ∙ sym (take-append-add piece (replicate 8 0) (8 - length piece))
-    ∙ ap (λ (n : ℕ). take n (piece ++ replicate 8 0)) size

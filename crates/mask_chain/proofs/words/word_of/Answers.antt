@@ -1,7 +1,7 @@
 use Rattle.std.proofs.Common.{◌%◌, ap, ◌∙◌}
 use Rattle.mask_bits.specs.Reading.{bit}
-use Rattle.mask_keystream.proofs.BitWords.{bit_is, bit_of_bool}
-use Rattle.mask_keystream.proofs.words.word_of.Goals as goal
+use Rattle.mask_chain.proofs.BitWords.{bit_is, bit_of_bool}
+use Rattle.mask_chain.proofs.words.word_of.Goals as goal
 
 pub returns : goal.returns
 returns c =

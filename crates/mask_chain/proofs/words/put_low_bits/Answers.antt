@@ -1,6 +1,6 @@
 use Rattle.std.proofs.Common.{◌*◌, ◌≡◌, length, arith}
-use Rattle.mask_keystream.proofs.BitWords.{all_words, word_more}
-use Rattle.mask_keystream.proofs.words.put_bits.Goals as goal
+use Rattle.mask_chain.proofs.BitWords.{all_words, word_more}
+use Rattle.mask_chain.proofs.words.put_low_bits.Goals as goal
 
 pub loop-j-preserved : goal.loop-j-preserved
 loop-j-preserved c =
