@@ -17,6 +17,8 @@ pub HasOrder-job_of : (f : Form) (ws : List Word) → Match (tests_of f) (tail_o
 HasOrder-job_of forms.EncPresent ws m = order_of-bounds (get_or ws 4 []) (Match-at (tests_of forms.EncPresent) None ws 4 m (lit< tt))
 HasOrder-job_of forms.EncLea ws m = order_of-bounds (get_or ws 4 []) (Match-at (tests_of forms.EncLea) None ws 4 m (lit< tt))
 HasOrder-job_of forms.EncTrivium ws m = order_of-bounds (get_or ws 4 []) (Match-at (tests_of forms.EncTrivium) None ws 4 m (lit< tt))
+HasOrder-job_of forms.MacChaskey ws m = order_of-bounds (get_or ws 4 []) (Match-at (tests_of forms.MacChaskey) None ws 4 m (lit< tt))
+HasOrder-job_of forms.MacLightMac ws m = order_of-bounds (get_or ws 4 []) (Match-at (tests_of forms.MacLightMac) None ws 4 m (lit< tt))
 HasOrder-job_of forms.Eval ws m = order_of-bounds (get_or ws 3 []) (Match-at (tests_of forms.Eval) None ws 3 m (lit< tt))
 HasOrder-job_of forms.Check ws m = tt
 HasOrder-job_of forms.Upgrade ws m = tt
@@ -32,6 +34,8 @@ HasCount-job_of forms.SelfRun ws m =
 HasCount-job_of forms.EncPresent ws m = tt
 HasCount-job_of forms.EncLea ws m = tt
 HasCount-job_of forms.EncTrivium ws m = tt
+HasCount-job_of forms.MacChaskey ws m = tt
+HasCount-job_of forms.MacLightMac ws m = tt
 HasCount-job_of forms.Eval ws m = tt
 HasCount-job_of forms.Check ws m = tt
 HasCount-job_of forms.Upgrade ws m = tt
@@ -44,6 +48,8 @@ pub HasWords-job_of : (f : Form) (ws : List Word) → Match (tests_of f) (tail_o
 HasWords-job_of forms.EncPresent ws m = tt
 HasWords-job_of forms.EncLea ws m = tt
 HasWords-job_of forms.EncTrivium ws m = tt
+HasWords-job_of forms.MacChaskey ws m = tt
+HasWords-job_of forms.MacLightMac ws m = tt
 HasWords-job_of forms.Eval ws m = record {
   count = Match-length (tests_of forms.Eval) ws m;
   order_word = refl;

@@ -4,7 +4,7 @@ use Rattle.std.proofs.lemmas.Fmt.{decimal_digit}
 use Rattle.std.proofs.lemmas.List.{drop_all}
 use Rattle.mask_words.specs.declared.word_tests.Command.TheVariants as commands
 use Rattle.mask_words.specs.declared.word_tests.Test.{Test}
-use Rattle.mask_words.specs.declared.word_tests.Test.TheVariants.{Given, Tape, Named, Present, Lea, Trivium, Order, Digits, Hex, Wire, Seed, Count, Circuit}
+use Rattle.mask_words.specs.declared.word_tests.Test.TheVariants.{Given, Tape, Named, Present, Lea, Trivium, LightMac, Chaskey, Order, Digits, Counter, LightMacTag, ChaskeyTag, Hex, Wire, Seed, Count, Circuit}
 use Rattle.mask_words.specs.WordTests.{Word, command_text, are_hex_digits, are_digits, passes}
 use Rattle.mask_words.specs.Jobs.{Match, reach}
 
@@ -34,8 +34,13 @@ sample (Named c) = command_text c
 sample Present = codes "present-80"
 sample Lea = codes "lea-128"
 sample Trivium = codes "trivium"
+sample LightMac = codes "lightmac-80"
+sample Chaskey = codes "chaskey-12"
 sample Order = codes "1"
 sample (Digits n) = zeros n
+sample Counter = codes "1"
+sample LightMacTag = codes "8"
+sample ChaskeyTag = codes "8"
 sample Hex = codes "-"
 sample Wire = codes "0"
 sample Seed = codes "0"
@@ -47,6 +52,7 @@ unfolding sample
 sample-passes Given = refl
 sample-passes Tape = refl
 sample-passes (Named commands.Enc) = refl
+sample-passes (Named commands.Mac) = refl
 sample-passes (Named commands.Eval) = refl
 sample-passes (Named commands.Check) = refl
 sample-passes (Named commands.Upgrade) = refl
@@ -58,8 +64,13 @@ sample-passes (Named commands.SelfRun) = refl
 sample-passes Present = refl
 sample-passes Lea = refl
 sample-passes Trivium = refl
+sample-passes LightMac = refl
+sample-passes Chaskey = refl
 sample-passes Order = refl
 sample-passes (Digits n) = are_digits-zeros n
+sample-passes Counter = refl
+sample-passes LightMacTag = refl
+sample-passes ChaskeyTag = refl
 sample-passes Hex = refl
 sample-passes Wire = rw (decimal_digit 0 (omega arith)) refl
 sample-passes Seed = rw (decimal_digit 0 (omega arith)) refl

@@ -10,13 +10,13 @@ use Rattle.mask_tasks.specs.declared.tasks.Task.TheVariants as tasks
 use Rattle.mask_tasks.specs.declared.names.Named.{Named as BuiltIn}
 use Rattle.mask_tasks.specs.declared.names.Named.TheVariants.{Present80}
 use Rattle.mask_words.specs.declared.word_tests.Test.{Test}
-use Rattle.mask_words.specs.declared.word_tests.Test.TheVariants.{Given, Tape, Named, Present, Lea, Trivium, Order, Digits, Hex, Wire, Seed, Count, Circuit}
+use Rattle.mask_words.specs.declared.word_tests.Test.TheVariants.{Given, Tape, Named, Present, Lea, Trivium, LightMac, Chaskey, Order, Digits, Counter, LightMacTag, ChaskeyTag, Hex, Wire, Seed, Count, Circuit}
 use Rattle.mask_words.specs.declared.table.Form.{Form}
 use Rattle.mask_words.specs.declared.table.Form.TheVariants as forms
 use Rattle.mask_words.specs.declared.table.Job.{Job}
 use Rattle.mask_words.specs.declared.table.Job.TheVariants as jobs
 use Rattle.mask_words.specs.declared.word_tests.Command.TheVariants as commands
-use Rattle.mask_words.specs.WordTests.{Word, passes, is_hex_text, is_wire, number_of, present_size, lea_size, circuit_named}
+use Rattle.mask_words.specs.WordTests.{Word, passes, is_hex_text, is_wire, number_of, present_size, lea_size, lightmac_size, circuit_named}
 use Rattle.mask_words.specs.Naming.{hex_bytes}
 
 -- what the words of a form are tested for, one by one
@@ -24,6 +24,8 @@ abbrev pub tests_of : Form → List Test
 tests_of forms.EncPresent = Given ∷ Tape ∷ Named commands.Enc ∷ Present ∷ Order ∷ Digits 16 ∷ []
 tests_of forms.EncLea = Given ∷ Tape ∷ Named commands.Enc ∷ Lea ∷ Order ∷ Digits 32 ∷ []
 tests_of forms.EncTrivium = Given ∷ Tape ∷ Named commands.Enc ∷ Trivium ∷ Order ∷ Digits 20 ∷ []
+tests_of forms.MacChaskey = Given ∷ Tape ∷ Named commands.Mac ∷ Chaskey ∷ Order ∷ ChaskeyTag ∷ []
+tests_of forms.MacLightMac = Given ∷ Tape ∷ Named commands.Mac ∷ LightMac ∷ Order ∷ Counter ∷ LightMacTag ∷ []
 tests_of forms.Eval = Given ∷ Tape ∷ Named commands.Eval ∷ Order ∷ Hex ∷ []
 tests_of forms.Check = Given ∷ Tape ∷ Named commands.Check ∷ []
 tests_of forms.Upgrade = Given ∷ Tape ∷ Named commands.Upgrade ∷ []
@@ -38,6 +40,8 @@ abbrev pub tail_of : Form → Option Test
 tail_of forms.EncPresent = None
 tail_of forms.EncLea = None
 tail_of forms.EncTrivium = None
+tail_of forms.MacChaskey = None
+tail_of forms.MacLightMac = None
 tail_of forms.Eval = None
 tail_of forms.Check = None
 tail_of forms.Upgrade = None
@@ -75,6 +79,10 @@ present_size_of w = unwrap_or (present_size w) K80
 abbrev pub lea_size_of : Word → LeaSize
 lea_size_of w = unwrap_or (lea_size w) lea.K128
 
+-- and those that words for LightMAC name
+abbrev pub lightmac_size_of : Word → KeySize
+lightmac_size_of w = unwrap_or (lightmac_size w) K80
+
 -- the number that the digits of an IV spell in hexadecimal, highest digit first
 abbrev pub iv_of : Word → ℕ
 iv_of w = digits_value 16 w
@@ -92,6 +100,9 @@ abbrev pub job_of : Form → List Word → Job
 job_of forms.EncPresent ws = jobs.Enc (tasks.Present (present_size_of (word_at ws 4)) (iv_of (word_at ws 6))) (order_of (word_at ws 5))
 job_of forms.EncLea ws = jobs.Enc (tasks.Lea (lea_size_of (word_at ws 4)) (iv_of (word_at ws 6))) (order_of (word_at ws 5))
 job_of forms.EncTrivium ws = jobs.Enc (tasks.Trivium (hex_bytes (word_at ws 6))) (order_of (word_at ws 5))
+job_of forms.MacChaskey ws = jobs.Mac (tasks.Chaskey (number_of (word_at ws 6))) (order_of (word_at ws 5))
+job_of forms.MacLightMac ws =
+    jobs.Mac (tasks.LightMac (lightmac_size_of (word_at ws 4)) (number_of (word_at ws 6)) (number_of (word_at ws 7))) (order_of (word_at ws 5))
 job_of forms.Eval ws = jobs.Eval (order_of (word_at ws 4))
 job_of forms.Check ws = jobs.Check
 job_of forms.Upgrade ws = jobs.Upgrade
@@ -119,6 +130,7 @@ pub record IsRefused (ws : List Word) (p : ℕ) : Type 0 where
 -- the order of a job is from 1 to 7
 abbrev pub HasOrder : Job → Type 0
 HasOrder (jobs.Enc task order) = (1 ≤ order) × (order ≤ 7)
+HasOrder (jobs.Mac task order) = (1 ≤ order) × (order ≤ 7)
 HasOrder (jobs.Eval order) = (1 ≤ order) × (order ≤ 7)
 HasOrder jobs.Check = Unit {0}
 HasOrder jobs.Upgrade = Unit {0}
@@ -149,6 +161,7 @@ pub record ProbeWords (ws : List Word) (order : ℕ) : Type 0 where
 -- the words are those of this job, where a command reads them again
 abbrev pub HasWords : List Word → Job → Type 0
 HasWords ws (jobs.Enc task order) = Unit {0}
+HasWords ws (jobs.Mac task order) = Unit {0}
 HasWords ws (jobs.Eval order) = EvalWords ws order
 HasWords ws jobs.Check = Unit {0}
 HasWords ws jobs.Upgrade = Unit {0}

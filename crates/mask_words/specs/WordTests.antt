@@ -12,15 +12,16 @@ use Rattle.mask_tasks.specs.declared.names.Named.{Named as BuiltIn}
 use Rattle.mask_tasks.specs.declared.names.TheConstants.{ALL}
 use Rattle.mask_tasks.specs.Names.{name_text}
 use Rattle.mask_words.specs.declared.word_tests.Command.{Command}
-use Rattle.mask_words.specs.declared.word_tests.Command.TheVariants.{Enc, Eval, Check, Upgrade, Probe, Split, Join, Emit, SelfRun}
+use Rattle.mask_words.specs.declared.word_tests.Command.TheVariants.{Enc, Mac, Eval, Check, Upgrade, Probe, Split, Join, Emit, SelfRun}
 use Rattle.mask_words.specs.declared.word_tests.Test.{Test}
-use Rattle.mask_words.specs.declared.word_tests.Test.TheVariants.{Given, Tape, Named, Present, Lea, Trivium, Order, Digits, Hex, Wire, Seed, Count, Circuit}
+use Rattle.mask_words.specs.declared.word_tests.Test.TheVariants.{Given, Tape, Named, Present, Lea, Trivium, LightMac, Chaskey, Order, Digits, Counter, LightMacTag, ChaskeyTag, Hex, Wire, Seed, Count, Circuit}
 
 abbrev pub Word : Type 0
 Word = List ℕ
 
 abbrev pub command_text : Command → Word
 command_text Enc = codes "enc"
+command_text Mac = codes "mac"
 command_text Eval = codes "eval"
 command_text Check = codes "check"
 command_text Upgrade = codes "upgrade"
@@ -56,6 +57,22 @@ lea_size w =
     if bytes_eq w (codes "lea-128")
     then Some lea.K128
     else if bytes_eq w (codes "lea-192") then Some lea.K192 else if bytes_eq w (codes "lea-256") then Some lea.K256 else None
+
+-- the key size of PRESENT that a word for LightMAC names
+abbrev pub lightmac_size : Word → Option KeySize
+lightmac_size w = if bytes_eq w (codes "lightmac-80") then Some K80 else if bytes_eq w (codes "lightmac-128") then Some K128 else None
+
+-- how many bytes a counter of LightMAC has
+abbrev pub is_counter : Word → Bool
+is_counter w = bytes_eq w (codes "1") || bytes_eq w (codes "2") || bytes_eq w (codes "4")
+
+-- and its tag
+abbrev pub is_lightmac_tag : Word → Bool
+is_lightmac_tag w = bytes_eq w (codes "4") || bytes_eq w (codes "8")
+
+-- how many bytes a tag of Chaskey-12 has
+abbrev pub is_chaskey_tag : Word → Bool
+is_chaskey_tag w = bytes_eq w (codes "8") || bytes_eq w (codes "16")
 
 -- one digit from `1` to `7`
 abbrev pub is_order : Word → Bool
@@ -100,8 +117,13 @@ passes (Named c) w = bytes_eq w (command_text c)
 passes Present w = is_some (present_size w)
 passes Lea w = is_some (lea_size w)
 passes Trivium w = bytes_eq w (codes "trivium")
+passes LightMac w = is_some (lightmac_size w)
+passes Chaskey w = bytes_eq w (codes "chaskey-12")
 passes Order w = is_order w
 passes (Digits n) w = are_digits n w
+passes Counter w = is_counter w
+passes LightMacTag w = is_lightmac_tag w
+passes ChaskeyTag w = is_chaskey_tag w
 passes Hex w = is_hex_text w
 passes Wire w = is_wire w
 passes Seed w = is_message_seed w

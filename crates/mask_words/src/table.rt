@@ -2,16 +2,20 @@
 
 ghost use Rattle.std.specs.Prelude.{◌≡◌, ℕ, ◌+◌, ◌-◌, ◌*◌, ◌<◌, ◌≤◌, List, length, IfOk, IfErr, drop, take};
 ghost use Rattle.std.specs.Prelude.{IsTrue, ◌↔◌, is_some};
-ghost use Rattle.mask_words.specs.WordTests.{is_order, are_digits, present_size, lea_size, is_message_seed, is_count, number_of, circuit_named};
-ghost use Rattle.mask_words.specs.Jobs.{tests_of, tail_of, reach, Match, order_of, present_size_of, lea_size_of, iv_of, circuit_of, job_of, IsJob, IsRefused, HasOrder, HasCount, HasWords, HaveOneJob, HaveOnePlace};
+ghost use Rattle.mask_words.specs.WordTests.{is_order, are_digits, present_size, lea_size, lightmac_size, is_counter, is_lightmac_tag, is_chaskey_tag, is_message_seed, is_count, number_of, circuit_named};
+ghost use Rattle.mask_words.specs.Jobs.{tests_of, tail_of, reach, Match, order_of, present_size_of, lea_size_of, lightmac_size_of, iv_of, circuit_of, job_of, IsJob, IsRefused, HasOrder, HasCount, HasWords, HaveOneJob, HaveOnePlace};
 ghost use Rattle.mask_words.specs.Naming.{hex_bytes};
+ghost use Rattle.mask_words.specs.declared.table.Form.TheVariants as forms;
 
 use crate::command_lines::Words;
-use crate::word_tests::Command::{Check, Emit, Enc, Eval, Join, Probe, SelfRun, Split, Upgrade};
-use crate::word_tests::Test::{
-    self, Circuit, Count, Digits, Given, Hex, Lea, Order, Present, Seed, Tape, Trivium,
+use crate::word_tests::Command::{
+    Check, Emit, Enc, Eval, Join, Mac, Probe, SelfRun, Split, Upgrade,
 };
-use crate::word_tests::{lea_size, present_size};
+use crate::word_tests::Test::{
+    self, Chaskey, ChaskeyTag, Circuit, Count, Counter, Digits, Given, Hex, Lea, LightMac,
+    LightMacTag, Order, Present, Seed, Tape, Trivium,
+};
+use crate::word_tests::{lea_size, lightmac_size, present_size};
 use hex::FromHex;
 use mask_tasks::{KeySize, LeaSize, Named, Task, circuit_named};
 
@@ -24,6 +28,10 @@ pub enum Form {
     EncLea,
     /// `KEYS TAPE enc trivium ORDER IV`
     EncTrivium,
+    /// `KEYS TAPE mac chaskey-12 ORDER TAG`
+    MacChaskey,
+    /// `KEYS TAPE mac CODE ORDER COUNTER TAG`, where CODE is LightMAC with a key size
+    MacLightMac,
     /// `KEYS TAPE eval ORDER HEX`
     Eval,
     /// `KEYS TAPE check`
@@ -43,10 +51,12 @@ pub enum Form {
 }
 
 /// The rows of the table.
-pub const FORMS: [Form; 11] = [
+pub const FORMS: [Form; 13] = [
     Form::EncPresent,
     Form::EncLea,
     Form::EncTrivium,
+    Form::MacChaskey,
+    Form::MacLightMac,
     Form::Eval,
     Form::Check,
     Form::Upgrade,
@@ -62,6 +72,8 @@ pub const FORMS: [Form; 11] = [
 pub enum Job {
     /// Encrypt the input by this task at this order, 1 to 7.
     Enc { task: Task, order: u32 },
+    /// Make the tag of the input by this task at this order, 1 to 7.
+    Mac { task: Task, order: u32 },
     /// Evaluate a circuit at this order, 1 to 7.
     Eval { order: u32 },
     /// Say whether a circuit is accepted, and whether it is strong.
@@ -96,6 +108,16 @@ impl Form {
             Form::EncPresent => &[Given, Tape, Test::Named(Enc), Present, Order, Digits(16)],
             Form::EncLea => &[Given, Tape, Test::Named(Enc), Lea, Order, Digits(32)],
             Form::EncTrivium => &[Given, Tape, Test::Named(Enc), Trivium, Order, Digits(20)],
+            Form::MacChaskey => &[Given, Tape, Test::Named(Mac), Chaskey, Order, ChaskeyTag],
+            Form::MacLightMac => &[
+                Given,
+                Tape,
+                Test::Named(Mac),
+                LightMac,
+                Order,
+                Counter,
+                LightMacTag,
+            ],
             Form::Eval => &[Given, Tape, Test::Named(Eval), Order, Hex],
             Form::Check => &[Given, Tape, Test::Named(Check)],
             Form::Upgrade => &[Given, Tape, Test::Named(Upgrade)],
@@ -116,6 +138,8 @@ impl Form {
             Form::EncPresent
             | Form::EncLea
             | Form::EncTrivium
+            | Form::MacChaskey
+            | Form::MacLightMac
             | Form::Eval
             | Form::Check
             | Form::Upgrade
@@ -183,26 +207,11 @@ fn job_of(form: Form, words: &Words) -> Job
     ensures { result ≡ job_of form words.now }
 {
     match form {
-        Form::EncPresent => Job::Enc {
-            task: Task::Present {
-                size: present_size_of(words.word(3)),
-                iv: present_iv_of(words.word(5)),
-            },
-            order: order_of(words.word(4)),
-        },
-        Form::EncLea => Job::Enc {
-            task: Task::Lea {
-                size: lea_size_of(words.word(3)),
-                iv: lea_iv_of(words.word(5)),
-            },
-            order: order_of(words.word(4)),
-        },
-        Form::EncTrivium => Job::Enc {
-            task: Task::Trivium {
-                iv: trivium_iv_of(words.word(5)),
-            },
-            order: order_of(words.word(4)),
-        },
+        Form::EncPresent => enc_present(words),
+        Form::EncLea => enc_lea(words),
+        Form::EncTrivium => enc_trivium(words),
+        Form::MacChaskey => mac_chaskey(words),
+        Form::MacLightMac => mac_lightmac(words),
         Form::Eval => Job::Eval {
             order: order_of(words.word(3)),
         },
@@ -225,6 +234,65 @@ fn job_of(form: Form, words: &Words) -> Job
             count: count_of(words.word(4)),
             order: order_of(words.word(5)),
         },
+    }
+}
+
+fn enc_present(words: &Words) -> Job
+    requires { Match (tests_of forms.EncPresent) (tail_of forms.EncPresent) words.now }
+    ensures { result ≡ job_of forms.EncPresent words.now }
+{
+    let size = present_size_of(words.word(3));
+    let iv = present_iv_of(words.word(5));
+    Job::Enc {
+        task: Task::Present { size, iv },
+        order: order_of(words.word(4)),
+    }
+}
+
+fn enc_lea(words: &Words) -> Job
+    requires { Match (tests_of forms.EncLea) (tail_of forms.EncLea) words.now }
+    ensures { result ≡ job_of forms.EncLea words.now }
+{
+    let size = lea_size_of(words.word(3));
+    let iv = lea_iv_of(words.word(5));
+    Job::Enc {
+        task: Task::Lea { size, iv },
+        order: order_of(words.word(4)),
+    }
+}
+
+fn enc_trivium(words: &Words) -> Job
+    requires { Match (tests_of forms.EncTrivium) (tail_of forms.EncTrivium) words.now }
+    ensures { result ≡ job_of forms.EncTrivium words.now }
+{
+    let iv = trivium_iv_of(words.word(5));
+    Job::Enc {
+        task: Task::Trivium { iv },
+        order: order_of(words.word(4)),
+    }
+}
+
+fn mac_chaskey(words: &Words) -> Job
+    requires { Match (tests_of forms.MacChaskey) (tail_of forms.MacChaskey) words.now }
+    ensures { result ≡ job_of forms.MacChaskey words.now }
+{
+    let tag = chaskey_tag_of(words.word(5));
+    Job::Mac {
+        task: Task::Chaskey { tag },
+        order: order_of(words.word(4)),
+    }
+}
+
+fn mac_lightmac(words: &Words) -> Job
+    requires { Match (tests_of forms.MacLightMac) (tail_of forms.MacLightMac) words.now }
+    ensures { result ≡ job_of forms.MacLightMac words.now }
+{
+    let size = lightmac_size_of(words.word(3));
+    let counter = counter_of(words.word(5));
+    let tag = lightmac_tag_of(words.word(6));
+    Job::Mac {
+        task: Task::LightMac { size, counter, tag },
+        order: order_of(words.word(4)),
     }
 }
 
@@ -268,6 +336,38 @@ fn trivium_iv_of(word: &str) -> [u8; 10]
     ensures { result ≡ hex_bytes word.now }
 {
     <[u8; 10] as FromHex>::from_hex(word).unwrap()
+}
+
+fn lightmac_size_of(word: &str) -> KeySize
+    requires { IsTrue (is_some (lightmac_size word.now)) }
+    ensures { result ≡ lightmac_size_of word.now }
+{
+    lightmac_size(word).unwrap()
+}
+
+fn counter_of(word: &str) -> u32
+    requires { IsTrue (is_counter word.now) }
+    ensures { result ≡ number_of word.now }
+{
+    match word {
+        "1" => 1,
+        "2" => 2,
+        _ => 4,
+    }
+}
+
+fn lightmac_tag_of(word: &str) -> u32
+    requires { IsTrue (is_lightmac_tag word.now) }
+    ensures { result ≡ number_of word.now }
+{
+    if word == "4" { 4 } else { 8 }
+}
+
+fn chaskey_tag_of(word: &str) -> u32
+    requires { IsTrue (is_chaskey_tag word.now) }
+    ensures { result ≡ number_of word.now }
+{
+    if word == "8" { 8 } else { 16 }
 }
 
 fn circuit_of(word: &str) -> Named

@@ -110,6 +110,53 @@ fn reads_the_words_of_enc_by_trivium(rt: HostRuntime) -> Result<(), Fail> {
     Ok(())
 }
 
+// A tag of LightMAC.
+fn mac_lightmac(size: KeySize, counter: u32, tag: u32, order: u32) -> Job {
+    Job::Mac {
+        task: Task::LightMac { size, counter, tag },
+        order,
+    }
+}
+
+// A tag of Chaskey-12.
+fn mac_chaskey(tag: u32, order: u32) -> Job {
+    Job::Mac {
+        task: Task::Chaskey { tag },
+        order,
+    }
+}
+
+#[test]
+fn reads_the_words_of_mac(rt: HostRuntime) -> Result<(), Fail> {
+    let cases: [(&[&str], Job); 5] = [
+        (
+            &["k", "t", "mac", "chaskey-12", "1", "16"],
+            mac_chaskey(16, 1),
+        ),
+        (
+            &["k", "t", "mac", "chaskey-12", "7", "8"],
+            mac_chaskey(8, 7),
+        ),
+        (
+            &["k", "t", "mac", "lightmac-80", "1", "1", "8"],
+            mac_lightmac(KeySize::K80, 1, 8, 1),
+        ),
+        (
+            &["k", "t", "mac", "lightmac-80", "2", "2", "4"],
+            mac_lightmac(KeySize::K80, 2, 4, 2),
+        ),
+        (
+            &["k", "t", "mac", "lightmac-128", "7", "4", "4"],
+            mac_lightmac(KeySize::K128, 4, 4, 7),
+        ),
+    ];
+    for (list, job) in cases {
+        let words = words_of(rt.alloc(), list)?;
+        assert_eq!(rt; read_words(&words), Ok(job));
+    }
+    Ok(())
+}
+
 #[test]
 fn reads_the_words_of_keys_and_circuits(rt: HostRuntime) -> Result<(), Fail> {
     let cases: [(&[&str], Job); 6] = [
@@ -273,6 +320,28 @@ fn refuses_the_words_of_enc_by_trivium(rt: HostRuntime) -> Result<(), Fail> {
             &["k", "t", "enc", "trivium", "1", "00000000000000000000", "x"],
             7,
         ),
+    ];
+    for (list, place) in cases {
+        let words = words_of(rt.alloc(), list)?;
+        assert_eq!(rt; read_words(&words), Err(BadWords { place }));
+    }
+    Ok(())
+}
+
+#[test]
+fn refuses_the_words_of_mac(rt: HostRuntime) -> Result<(), Fail> {
+    let cases: [(&[&str], u32); 11] = [
+        (&["k", "t", "mac"], 4),
+        (&["k", "t", "mac", "chaskey", "1", "16"], 4),
+        (&["k", "t", "mac", "lightmac-256", "1", "1", "8"], 4),
+        (&["k", "t", "mac", "chaskey-12", "8", "16"], 5),
+        (&["k", "t", "mac", "chaskey-12", "1", "4"], 6),
+        (&["k", "t", "mac", "lightmac-80", "1", "3", "8"], 6),
+        (&["k", "t", "mac", "lightmac-80", "1", "01", "8"], 6),
+        (&["k", "t", "mac", "chaskey-12", "1", "16", "x"], 7),
+        (&["k", "t", "mac", "lightmac-80", "1", "1"], 7),
+        (&["k", "t", "mac", "lightmac-80", "1", "1", "16"], 7),
+        (&["k", "t", "mac", "lightmac-80", "1", "1", "8", "x"], 8),
     ];
     for (list, place) in cases {
         let words = words_of(rt.alloc(), list)?;

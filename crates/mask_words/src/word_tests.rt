@@ -2,7 +2,7 @@
 
 ghost use Rattle.std.specs.Prelude.{◌≡◌, ℕ, ◌<◌, List, length};
 ghost use Rattle.std.specs.Prelude.{codes, IsTrue};
-ghost use Rattle.mask_words.specs.WordTests.{passes, command_text, are_hex_digits, are_digits, are_seed_digits, present_size, lea_size, is_hex_text, is_tape, is_order, is_number_between, is_wire, number_of, WiresHaveOneNumber};
+ghost use Rattle.mask_words.specs.WordTests.{passes, command_text, are_hex_digits, are_digits, are_seed_digits, present_size, lea_size, lightmac_size, is_hex_text, is_tape, is_order, is_number_between, is_wire, number_of, WiresHaveOneNumber};
 
 use itoa::Buffer;
 use mask_tasks::{KeySize, LeaSize, circuit_named};
@@ -12,6 +12,8 @@ use mask_tasks::{KeySize, LeaSize, circuit_named};
 pub enum Command {
     /// `enc`
     Enc,
+    /// `mac`
+    Mac,
     /// `eval`
     Eval,
     /// `check`
@@ -36,6 +38,7 @@ impl Command {
     {
         match self {
             Command::Enc => "enc",
+            Command::Mac => "mac",
             Command::Eval => "eval",
             Command::Check => "check",
             Command::Upgrade => "upgrade",
@@ -63,9 +66,19 @@ pub enum Test {
     Lea,
     /// The word `trivium`.
     Trivium,
+    /// LightMAC with a key size: `lightmac-80` or `lightmac-128`.
+    LightMac,
+    /// The word `chaskey-12`.
+    Chaskey,
     Order,
     /// So many hexadecimal digits, in either case.
     Digits(usize),
+    /// The bytes of a counter of LightMAC: `1`, `2` or `4`.
+    Counter,
+    /// The bytes of a tag of LightMAC: `4` or `8`.
+    LightMacTag,
+    /// The bytes of a tag of Chaskey-12: `8` or `16`.
+    ChaskeyTag,
     /// Bytes in hexadecimal: `-` for none, or an even number of digits, at least two, in either case.
     Hex,
     /// The number of a wire: in decimal, without a needless zero, and less than 2^32.
@@ -90,8 +103,13 @@ impl Test {
             Test::Present => present_size(word).is_some(),
             Test::Lea => lea_size(word).is_some(),
             Test::Trivium => word == "trivium",
+            Test::LightMac => lightmac_size(word).is_some(),
+            Test::Chaskey => word == "chaskey-12",
             Test::Order => is_order(word.as_bytes()),
             Test::Digits(count) => are_digits(count, word.as_bytes()),
+            Test::Counter => word == "1" || word == "2" || word == "4",
+            Test::LightMacTag => word == "4" || word == "8",
+            Test::ChaskeyTag => word == "8" || word == "16",
             Test::Hex => is_hex_text(word),
             Test::Wire => is_number_between(0, 4_294_967_295, word),
             Test::Seed => is_number_between(0, 18_446_744_073_709_551_615, word),
@@ -138,6 +156,17 @@ pub(crate) fn lea_size(word: &str) -> Option<LeaSize>
         "lea-128" => Some(LeaSize::K128),
         "lea-192" => Some(LeaSize::K192),
         "lea-256" => Some(LeaSize::K256),
+        _ => None,
+    }
+}
+
+/// The key size of PRESENT that a word for LightMAC names.
+pub(crate) fn lightmac_size(word: &str) -> Option<KeySize>
+    ensures { result ≡ lightmac_size word.now }
+{
+    match word {
+        "lightmac-80" => Some(KeySize::K80),
+        "lightmac-128" => Some(KeySize::K128),
         _ => None,
     }
 }

@@ -14,7 +14,7 @@ loop-form-preserved c =
 
 pub returns-clause-refused : goal.returns-clause-refused
 returns-clause-refused c =
-    let all : c.loop-form.form-index ≡ 11 = omega arith in
+    let all : c.loop-form.form-index ≡ 13 = omega arith in
     IsRefused-tried _ _ (subst (λ (n : ℕ). Tried c.args.words.now n c.loop-form.farthest) all c.loop-form.invariant)
 
 pub returns-then-is_whole-clause-order : goal.returns-then-is_whole-clause-order
