@@ -13,6 +13,7 @@ use Rattle.mask_trace.specs.Steps.{InputBit, Step}
 use Rattle.mask_trace.specs.Steps as steps
 use Rattle.mask_macs.specs.ChaskeyRuns.{block_step, end_step, start_step}
 use Rattle.mask_macs.proofs.ChaskeyPlans.{block_is_strong, end_is_strong}
+use Rattle.mask_macs.proofs.Refreshes.{outputs-refreshing}
 use Rattle.mask_refresh.proofs.Making.{inputs-refreshing}
 use Rattle.mask_circuit.proofs.Places.{length-each}
 use Rattle.mask_chain.specs.Evaluations.{IsThere, Suits, inputs_of, keeps}
@@ -45,17 +46,24 @@ end_is circuit words end bytes named bits =
     (state_key_message 128 128 words ∙ ap (λ (bs : List Bool). each steps.State 128 ++ (each steps.Key 128 ++ map steps.Plain bs)) bits)
 
 -- they suit the circuits
-pub start_suits : (s : ℕ) (circuit : Netlist) (e : Evaluation) → circuit ≡ refreshing 128 → e.before.now ≡ Key 0 128 ∷ [] → e.message.now ≡ [] →
-    e.behind.now ≡ [] → e.keep ≡ AsState → Suits 128 s circuit e
-start_suits s circuit e named before message behind keep = record {
-  before = subst (All (IsThere 128 s)) (sym before) (All-cons (IsThere 128 s) (Key 0 128) [] (omega arith) (All-nil (IsThere 128 s)));
-  behind = subst (All (IsThere 128 s)) (sym behind) (All-nil (IsThere 128 s));
+pub start_suits : (k s : ℕ) (circuit : Netlist) (e : Evaluation) → circuit ≡ refreshing 128 → e.before.now ≡ Key 0 128 ∷ [] → e.message.now ≡ [] →
+    e.behind.now ≡ [] → e.keep ≡ AsState → k ≡ 128 → Suits k s circuit e
+start_suits k s circuit e named before message behind keep wide = record {
+  before = subst (All (IsThere k s)) (sym before) (All-cons (IsThere k s) (Key 0 128) [] (omega arith) (All-nil (IsThere k s)));
+  behind = subst (All (IsThere k s)) (sym behind) (All-nil (IsThere k s));
   count = ap (λ (bs : List Source). length (inputs_of bs e.message.now e.behind.now)) before
       ∙ ap₂ (λ (ws : List ℕ) (bs : List Source). length (inputs_of (Key 0 128 ∷ []) ws bs)) message behind
       ∙ ap (λ (t : Step). length t.inputs) (start_is circuit named)
       ∙ length-each steps.Key 128 ∙ sym (inputs-refreshing 128) ∙ ap (λ (c : Netlist). c.inputs) (sym named);
-  fit = subst (λ (kept : Keep). steps.Fit 128 (keeps kept) circuit) (sym keep) tt;
+  fit = subst (λ (kept : Keep). steps.Fit k (keeps kept) circuit) (sym keep) tt;
 }
+
+-- what suits a state of 128 bits suits the one that the start leaves
+pub suits_behind : (k : ℕ) (start circuit : Netlist) (e : Evaluation) → start ≡ refreshing 128 → k ≡ 128 → Suits 128 128 circuit e →
+    Suits k (length start.outputs) circuit e
+suits_behind k start circuit e named wide suits =
+    subst (λ (s : ℕ). Suits k s circuit e) (sym (ap (λ (c : Netlist). length c.outputs) named ∙ outputs-refreshing 128))
+    (subst (λ (n : ℕ). Suits n 128 circuit e) (sym wide) suits)
 
 pub block_suits : (circuit : Netlist) (e : Evaluation) (block : List ℕ) → circuit ≡ named_step → e.before.now ≡ State 128 ∷ [] →
     e.behind.now ≡ [] → e.keep ≡ AsState → lane 0 e.message.now ≡ low block → length block ≡ 16 → Suits 128 128 circuit e

@@ -2,13 +2,14 @@
 use Rattle.std.proofs.Common.{◌≡◌, ℕ, suc, ◌+◌, ◌-◌, ◌==◌, ◌<◌, ◌≤◌, Bool, true, false, cond, List, [], ◌∷◌, ◌++◌, length, drop, replicate, refl, ap, sym, ◌∙◌, arith, if◌then◌else◌}
 use Rattle.std.proofs.Math.ListN.{set}
 use Rattle.std.proofs.Math.Seq.{set-append_seam}
-use Rattle.std.proofs.lemmas.Bool.{eq-eqb, ne-eqb}
+use Rattle.std.proofs.lemmas.Bool.{eq-eqb, ne_eqb}
 use Rattle.std.proofs.lemmas.List.{drop-replicate}
+use Rattle.mask_bits.specs.Reading.{low}
 use Rattle.mask_chaskey.specs.declared.doubling.End.{End}
 use Rattle.mask_chaskey.specs.declared.doubling.End.TheVariants.{Whole, Short}
 use Rattle.mask_chaskey.specs.Chaskey.{end_of, last_bytes, padded}
 use Rattle.mask_macs.specs.ChaskeyRuns.{ahead, start_step}
-use Rattle.mask_macs.proofs.ChaskeyBlocks.{last_bytes-alone}
+use Rattle.mask_macs.proofs.ChaskeyBlocks.{last_bytes-alone, length-padded_alone}
 use Rattle.mask_trace.specs.Steps.{Step}
 
 -- the state is made where there were no bytes
@@ -36,4 +37,16 @@ pub short_end : (piece : List ℕ) → length piece < 16 → end_of piece ≡ Sh
 unfolding end_of
 short_end piece few =
     ap (λ (b : Bool). if b then Whole else Short)
-    (ap (λ (bytes : List ℕ). length bytes == 16) (last_bytes-alone piece (omega arith)) ∙ ne-eqb (length piece) 16 (λ same. omega arith))
+    (ap (λ (bytes : List ℕ). length bytes == 16) (last_bytes-alone piece (omega arith)) ∙ ne_eqb (length piece) 16 (λ same. omega arith))
+
+-- a whole last block is its bytes, and a short one is filled up
+pub padded_bytes : (piece : List ℕ) → piece ≡ padded Whole piece
+unfolding padded
+padded_bytes piece = refl
+
+pub padded_whole : (piece : List ℕ) → low piece ≡ low (padded Whole piece)
+padded_whole piece = ap low (padded_bytes piece)
+
+pub length-short : (piece : List ℕ) → length piece < 16 → length (padded Short piece) ≡ 16
+length-short piece few =
+    ap (λ (end : End). length (padded end piece)) (sym (short_end piece few)) ∙ length-padded_alone piece (omega arith)

@@ -1,1 +1,2 @@
 pub mod ChaskeyEvaluations
+pub mod ChaskeyPieces
