@@ -1,1 +1,2 @@
+pub mod LightMacForms
 pub mod Tagging

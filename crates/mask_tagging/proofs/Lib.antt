@@ -1,0 +1,3 @@
+pub mod LightMacBlocks
+pub mod LightMacEvaluations
+pub mod LightMacStopping
