@@ -1,2 +1,5 @@
 pub mod ChaskeyEvaluations
 pub mod ChaskeyPieces
+pub mod LightMacBlocks
+pub mod LightMacEvaluations
+pub mod LightMacStopping

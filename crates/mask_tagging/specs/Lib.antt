@@ -1,2 +1,3 @@
 pub mod ChaskeyForms
+pub mod LightMacForms
 pub mod Tagging

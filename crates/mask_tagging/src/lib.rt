@@ -6,5 +6,8 @@
 
 mod chaskey_runs;
 mod chaskey_words;
+mod lightmac_runs;
+mod lightmac_words;
 
 pub use chaskey_runs::ChaskeyRun;
+pub use lightmac_runs::LightMacRun;
