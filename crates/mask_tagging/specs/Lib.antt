@@ -1,3 +1,4 @@
 pub mod ChaskeyForms
 pub mod LightMacForms
+pub mod Runs
 pub mod Tagging

@@ -9,8 +9,7 @@ ghost use Rattle.mask_tape.specs.declared.tape.TapeError.TheVariants as TapeErro
 ghost use Rattle.mask_refresh.specs.Refreshing.{refreshing};
 ghost use Rattle.mask_trace.specs.Values.{HasShares};
 ghost use Rattle.mask_trace.specs.Drawing.{Ran, stand};
-ghost use Rattle.mask_chaskey.specs.declared.doubling.End.TheVariants.{Whole, Short};
-ghost use Rattle.mask_macs.specs.ChaskeyRuns.{ahead, block_step, end_step};
+ghost use Rattle.mask_macs.specs.ChaskeyRuns.{ahead};
 ghost use Rattle.mask_macs.specs.Codes.{IsNext, chaskey_code};
 ghost use Rattle.mask_chain.specs.declared.evaluations.Keep.TheVariants as Keep;
 ghost use Rattle.mask_chain.specs.Evaluations.{Suits, step};
@@ -161,15 +160,15 @@ impl<const N: usize> ChaskeyRun<N> {
         requires some { 2 ≤ N }
         requires few { N ≤ 8 }
         requires block { length piece.now ≡ 16 }
-        requires behind { 0 < fed → length self.old.held.state ≡ 128 }
+        requires behind { 0 < fed → length self.old.held.state ≡ (code_of self.old.scheme).state_bits }
         requires kept { length tape.old < 8 }
-        ensures ran { OnOk result (Ran N self.old.held (ahead fed ++ block_step piece.now ∷ []) self.new.held
+        ensures ran { OnOk result (Ran N self.old.held ((code_of self.old.scheme).next fed piece.now false) self.new.held
             (stand tape.old (E.left entropy.old) (W.told watch.old)) (stand tape.new (E.left entropy.new) (W.told watch.new))) }
-        ensures behind { OnOk result (length self.new.held.state ≡ 128) }
+        ensures behind { OnOk result (length self.new.held.state ≡ (code_of self.old.scheme).state_bits) }
         ensures scheme { self.new.scheme ≡ self.old.scheme }
         ensures wants { OnOk result (E.wanted entropy.new ≡ E.wanted entropy.old) }
-        ensures steps { OnOk result (steps.new ≡ steps.old + sum_by (λ step. length step.circuit.gates) (ahead fed ++ block_step piece.now ∷ [])) }
-        ensures stopped { IfErr result (λ e. e ≡ TapeError.Failed → Stopped N self.old.held self.new.held (ahead fed) (block_step piece.now)
+        ensures steps { OnOk result (steps.new ≡ steps.old + sum_by (λ step. length step.circuit.gates) ((code_of self.old.scheme).next fed piece.now false)) }
+        ensures stopped { IfErr result (λ e. e ≡ TapeError.Failed → Interrupted N (code_of self.old.scheme) fed piece.now false self.old.held self.new.held
             (E.wanted entropy.new) steps.old steps.new
             (stand tape.old (E.left entropy.old) (W.told watch.old)) (stand tape.new (E.left entropy.new) (W.told watch.new))) }
         ensures no_memory { IfErr result (λ e. e ≡ TapeError.NoMemory → (self.new ≡ self.old) × (tape.new ≡ tape.old)
@@ -210,15 +209,15 @@ impl<const N: usize> ChaskeyRun<N> {
         requires some { 2 ≤ N }
         requires few { N ≤ 8 }
         requires block { length piece.now ≡ 16 }
-        requires behind { 0 < fed → length self.old.held.state ≡ 128 }
+        requires behind { 0 < fed → length self.old.held.state ≡ (code_of self.old.scheme).state_bits }
         requires kept { length tape.old < 8 }
-        ensures ran { OnOk result (Ran N self.old.held (ahead fed ++ end_step Whole piece.now ∷ []) self.new.held
+        ensures ran { OnOk result (Ran N self.old.held ((code_of self.old.scheme).next fed piece.now true) self.new.held
             (stand tape.old (E.left entropy.old) (W.told watch.old)) (stand tape.new (E.left entropy.new) (W.told watch.new))) }
-        ensures behind { OnOk result (length self.new.held.state ≡ 128) }
+        ensures behind { OnOk result (length self.new.held.state ≡ (code_of self.old.scheme).state_bits) }
         ensures scheme { self.new.scheme ≡ self.old.scheme }
         ensures wants { OnOk result (E.wanted entropy.new ≡ E.wanted entropy.old) }
-        ensures steps { OnOk result (steps.new ≡ steps.old + sum_by (λ step. length step.circuit.gates) (ahead fed ++ end_step Whole piece.now ∷ [])) }
-        ensures stopped { IfErr result (λ e. e ≡ TapeError.Failed → Stopped N self.old.held self.new.held (ahead fed) (end_step Whole piece.now)
+        ensures steps { OnOk result (steps.new ≡ steps.old + sum_by (λ step. length step.circuit.gates) ((code_of self.old.scheme).next fed piece.now true)) }
+        ensures stopped { IfErr result (λ e. e ≡ TapeError.Failed → Interrupted N (code_of self.old.scheme) fed piece.now true self.old.held self.new.held
             (E.wanted entropy.new) steps.old steps.new
             (stand tape.old (E.left entropy.old) (W.told watch.old)) (stand tape.new (E.left entropy.new) (W.told watch.new))) }
         ensures no_memory { IfErr result (λ e. e ≡ TapeError.NoMemory → (self.new ≡ self.old) × (tape.new ≡ tape.old)
@@ -259,15 +258,15 @@ impl<const N: usize> ChaskeyRun<N> {
         requires some { 2 ≤ N }
         requires few { N ≤ 8 }
         requires block { length piece.now < 16 }
-        requires behind { 0 < fed → length self.old.held.state ≡ 128 }
+        requires behind { 0 < fed → length self.old.held.state ≡ (code_of self.old.scheme).state_bits }
         requires kept { length tape.old < 8 }
-        ensures ran { OnOk result (Ran N self.old.held (ahead fed ++ end_step Short piece.now ∷ []) self.new.held
+        ensures ran { OnOk result (Ran N self.old.held ((code_of self.old.scheme).next fed piece.now true) self.new.held
             (stand tape.old (E.left entropy.old) (W.told watch.old)) (stand tape.new (E.left entropy.new) (W.told watch.new))) }
-        ensures behind { OnOk result (length self.new.held.state ≡ 128) }
+        ensures behind { OnOk result (length self.new.held.state ≡ (code_of self.old.scheme).state_bits) }
         ensures scheme { self.new.scheme ≡ self.old.scheme }
         ensures wants { OnOk result (E.wanted entropy.new ≡ E.wanted entropy.old) }
-        ensures steps { OnOk result (steps.new ≡ steps.old + sum_by (λ step. length step.circuit.gates) (ahead fed ++ end_step Short piece.now ∷ [])) }
-        ensures stopped { IfErr result (λ e. e ≡ TapeError.Failed → Stopped N self.old.held self.new.held (ahead fed) (end_step Short piece.now)
+        ensures steps { OnOk result (steps.new ≡ steps.old + sum_by (λ step. length step.circuit.gates) ((code_of self.old.scheme).next fed piece.now true)) }
+        ensures stopped { IfErr result (λ e. e ≡ TapeError.Failed → Interrupted N (code_of self.old.scheme) fed piece.now true self.old.held self.new.held
             (E.wanted entropy.new) steps.old steps.new
             (stand tape.old (E.left entropy.old) (W.told watch.old)) (stand tape.new (E.left entropy.new) (W.told watch.new))) }
         ensures no_memory { IfErr result (λ e. e ≡ TapeError.NoMemory → (self.new ≡ self.old) × (tape.new ≡ tape.old)

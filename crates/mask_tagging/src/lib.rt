@@ -8,6 +8,8 @@ mod chaskey_runs;
 mod chaskey_words;
 mod lightmac_runs;
 mod lightmac_words;
+mod runs;
 
 pub use chaskey_runs::ChaskeyRun;
 pub use lightmac_runs::LightMacRun;
+pub use runs::TagRun;
