@@ -1,6 +1,7 @@
 -- Bits of a byte and of a key.
-use Rattle.std.proofs.Common.{◌≡◌, ℕ, suc, ◌+◌, ◌-◌, ◌*◌, ◌/◌, ◌%◌, ◌<◌, Bool, true, false, List, [], ◌∷◌, length, map, get_or, refl, sym, ap, ap₂, ◌∙◌, arith}
+use Rattle.std.proofs.Common.{◌≡◌, ℕ, suc, ◌+◌, ◌-◌, ◌*◌, ◌/◌, ◌%◌, ◌<◌, ◌≤◌, Bool, true, false, List, [], ◌∷◌, ◌++◌, length, map, get_or, refl, sym, ap, ap₂, ◌∙◌, arith}
 use Rattle.std.specs.Prelude.{slice_index}
+use Rattle.std.proofs.lemmas.List.{get_or-append_right, get_or_append_left}
 use mir.Val.{bool_byte}
 use Rattle.mask_bits.specs.Reading.{bit, low, high}
 use Rattle.mask_modes.proofs.Readings.{bytes_are_read}
@@ -30,3 +31,13 @@ high_bit_is bytes j lt =
     let place : 8 * (length bytes - 1 - (length bytes - 1 - j / 8)) + j % 8 ≡ j = omega arith in
     sym (bytes_are_read.high_place bytes (length bytes - 1 - j / 8) (j % 8) (omega arith) (omega arith))
     ∙ ap (λ (i : ℕ). get_or (high bytes) i false) place
+
+-- a bit of two big-endian numbers, one behind the other, is one of the first or of the second
+pub in_first : (first second : List ℕ) (j : ℕ) → j / 8 < length first → get_or (high first) j false ≡ get_or (high first ++ high second) j false
+in_first first second j here =
+    sym (get_or_append_left (high first) (high second) false j (omega (arith, here, bytes_are_read.high_first.count first)))
+
+pub in_second : (first second : List ℕ) (j : ℕ) → length first ≤ j / 8 →
+    get_or (high second) (j - 8 * length first) false ≡ get_or (high first ++ high second) j false
+in_second first second j past =
+    sym (get_or-append_right (high first) (high second) (8 * length first) j false (bytes_are_read.high_first.count first) (omega (arith, past)))

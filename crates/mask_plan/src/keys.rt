@@ -64,7 +64,7 @@ fn bit_of_two(bytes: &[u8], front: usize, j: usize) -> u64
     ensures { bit 0 result ≡ slice_index_or (high (take front bytes.now) ++ high (drop front bytes.now)) j false }
 {
     let (first, second) = bytes.split_at(front.min(bytes.len()));
-    if j < 8 * first.len() {
+    if j / 8 < first.len() {
         high_bit(first, j)
     } else {
         high_bit(second, j - 8 * first.len())

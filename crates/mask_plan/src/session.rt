@@ -13,7 +13,8 @@ use crate::keys::shares_of_key;
 use crate::pieces::take_piece;
 use crate::runs::{TaskRun, outputs_of};
 use crate::tasks::{
-    bytes_at_once, bytes_known_behind, bytes_of_block, bytes_written, makes_tag, place_in_block, run_of,
+    bytes_at_once, bytes_known_behind, bytes_of_block, bytes_written, makes_tag, place_in_block,
+    run_of,
 };
 use mask_ciphers::lines_share_keys;
 use mask_circuit::Steps;
@@ -100,19 +101,20 @@ impl<const N: usize> Session<N> {
         })
     }
 
-    /// How many bytes `feed` takes: 512 for PRESENT, which is 64 blocks of 8 bytes, 1,024 for LEA, which is 64 blocks of 16, 8 for
-    /// Trivium, 8 less the bytes of a counter for LightMAC, and 16 for Chaskey-12.
+    /// How many bytes `feed` takes: 512 for PRESENT, which is 64 blocks of 8 bytes, 1,024 for LEA, which is 64 blocks of 16, and 8
+    /// for Trivium. For a code it is one piece: 8 bytes less those of the counter for LightMAC, and 16 for Chaskey-12.
     pub fn batch_bytes(&self) -> usize
         ensures { result ≡ batch_length self.now.task }
     {
         bytes_at_once(&self.task)
     }
 
-    /// Takes the next bytes of the message, as many as [`Session::batch_bytes`] says, and encrypts them. For a code one more byte of the
-    /// message is known.
+    /// Takes the next bytes of the message, as many as [`Session::batch_bytes`] says, and encrypts them. For a code a piece is fed
+    /// only where one more byte of the message is known, and nothing is handed out behind it.
     ///
     /// It is refused with `Closed` after any refusal, and then, in this order, where the message is too long, where there is no
-    /// memory, and where the tape fails. All memory is taken before the tape is asked.
+    /// memory, and where the tape fails. The byte that is known behind a code's piece counts for the length of the message. All
+    /// memory is taken before the tape is asked.
     pub fn feed<E: Entropy, W: Watch, L: Ledger>(
         &mut self,
         piece: &[u8],
@@ -137,9 +139,9 @@ impl<const N: usize> Session<N> {
         self.take(piece, false, tape, entropy, watch, steps)
     }
 
-    /// Takes the last bytes of the message, up to as many as [`Session::batch_bytes`] says, and encrypts them. After Ok the
-    /// session has ended. It is refused as `feed` is. With no bytes of a cipher nothing is evaluated; for a code they are none only where
-    /// the message is.
+    /// Takes the last bytes of the message, up to as many as [`Session::batch_bytes`] says, and encrypts them, or makes the tag.
+    /// After Ok the session has ended. It is refused as `feed` is. With no bytes a cipher evaluates nothing; for a code there are none
+    /// only where the message is empty, and its tag is made.
     pub fn end<E: Entropy, W: Watch, L: Ledger>(
         &mut self,
         piece: &[u8],
@@ -166,14 +168,14 @@ impl<const N: usize> Session<N> {
         self.take(piece, true, tape, entropy, watch, steps)
     }
 
-    /// How many bytes a block has that is handed out: 8 for PRESENT and Trivium, and 16 for LEA; or a tag.
+    /// How many bytes a block has that is handed out: 8 for PRESENT and Trivium, and 16 for LEA. For a code it is the tag.
     pub fn block_bytes(&self) -> usize
         ensures { result ≡ block_length self.now.task }
     {
         bytes_of_block(&self.task)
     }
 
-    /// Whether the task makes a tag, which is handed out behind the last piece, and no ciphertext.
+    /// Whether the task makes a tag, which is handed out behind the last piece, and not a ciphertext.
     pub fn makes_tag(&self) -> bool
         ensures cipher { result ≡ false → IsCipher (method_of self.now.task) }
         ensures tag { result ≡ true → IsCipher (method_of self.now.task) → ⊥ }
@@ -248,14 +250,16 @@ impl<const N: usize> Session<N> {
         self.ended
     }
 
-    /// How many bytes the latest call, if it was Ok, has to hand out.
+    /// How many bytes the latest call, if it was Ok, has to hand out. For a code there are none behind `feed`, and behind `end` those
+    /// of the tag.
     pub fn written(&self) -> u64
         ensures { result ≡ self.now.written }
     {
         self.written
     }
 
-    /// The shares of bit `place` of byte `byte` of the latest blocks, a block in each lane. Place 0 is the lowest bit.
+    /// The shares of bit `place` of byte `byte` of the latest blocks, a block in each lane. Place 0 is the lowest bit. A tag is the
+    /// block in lane 0.
     pub fn out_bit(&self, byte: u32, place: u32) -> Shares<N>
         requires byte { byte < block_length self.now.task }
         requires place { place < 8 }

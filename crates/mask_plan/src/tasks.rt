@@ -22,9 +22,7 @@ use mask_present::present_circuit;
 use mask_refresh::refresh_circuit;
 use mask_shares::Shares;
 use mask_tagging::{ChaskeyRun, LightMacRun, TagRun};
-use mask_tasks::{
-    KeySize, LeaSize, Task, chaskey_tag_length, counter_length, lightmac_tag_length,
-};
+use mask_tasks::{KeySize, LeaSize, Task, chaskey_tag_length, counter_length, lightmac_tag_length};
 use std::alloc::{AllocError, Global};
 use std::sync::ledger::Ledger;
 
@@ -53,7 +51,7 @@ pub(crate) fn bytes_of_block(task: &Task) -> usize
     }
 }
 
-/// Whether a task makes a tag, and no ciphertext.
+/// Whether a task makes a tag, and not a ciphertext.
 pub(crate) fn makes_tag(task: &Task) -> bool
     ensures cipher { result ≡ false → IsCipher (method_of task.now) }
     ensures tag { result ≡ true → IsCipher (method_of task.now) → ⊥ }
@@ -73,11 +71,11 @@ pub(crate) fn bytes_known_behind(task: &Task, last: bool) -> u64
 }
 
 /// How many bytes are written of a piece, the last or not.
-pub(crate) fn bytes_written(task: &Task, length: u64, last: bool) -> u64
-    ensures { (piece : List ℕ) → length piece ≡ length → result ≡ next_length (method_of task.now) piece last }
+pub(crate) fn bytes_written(task: &Task, count: u64, last: bool) -> u64
+    ensures { (piece : List ℕ) → length piece ≡ count → result ≡ next_length (method_of task.now) piece last }
 {
     match *task {
-        Task::Present { .. } | Task::Lea { .. } | Task::Trivium { .. } => length,
+        Task::Present { .. } | Task::Lea { .. } | Task::Trivium { .. } => count,
         Task::LightMac { .. } | Task::Chaskey { .. } if last => bytes_of_block(task) as u64,
         Task::LightMac { .. } | Task::Chaskey { .. } => 0,
     }

@@ -1,4 +1,6 @@
-use Rattle.std.proofs.Common.{◌≡◌, refl, subst}
+use Rattle.std.proofs.Common.{◌≡◌, length, subst, sym}
+use Rattle.mask_tagging.specs.Runs.{between}
+use Rattle.mask_tagging.specs.Tagging.{Scheme, code_of}
 use Rattle.mask_ciphers.specs.Tasks.{method_of}
 use Rattle.mask_plan.specs.Sessions.{bit_place}
 use Rattle.mask_plan.proofs.Places.{bits_stand}
@@ -9,7 +11,9 @@ pub returns-in-Ok-clause-took : goal.returns-in-Ok-clause-took
 returns-in-Ok-clause-took g c =
     took g.row.N (method_of c.args.task.now) (bit_place c.args.task.now) c.args.run.now c.piece.new.self c.args.fed c.args.piece.now c.args.last _ _ c.requires.some
     (c.tasks_encipher.ensures c.args.task.now c.requires.whole_task) (bits_stand c.args.task.now) c.requires.goes_on c.requires.whole c.requires.ends
-    c.in-Ok.ensures.ran (c.outputs-handed.ensures.lanes c.in-Ok.ensures.behind)
+    c.in-Ok.ensures.ran
+    (c.outputs-handed.ensures.lanes
+    (subst (λ (s : Scheme). length (between c.piece.new.self).held.state ≡ (code_of s).state_bits) (sym c.piece.ensures.scheme) c.in-Ok.ensures.behind))
 
 pub returns-in-Ok-clause-goes_on : goal.returns-in-Ok-clause-goes_on
 returns-in-Ok-clause-goes_on g c not_last =
