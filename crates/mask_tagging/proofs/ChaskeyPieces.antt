@@ -1,6 +1,7 @@
 -- What goes ahead of a piece of Chaskey-12, and how its last block is filled up.
-use Rattle.std.proofs.Common.{◌≡◌, ℕ, suc, ◌+◌, ◌-◌, ◌==◌, ◌<◌, ◌≤◌, Bool, true, false, cond, List, [], ◌∷◌, ◌++◌, length, drop, replicate, refl, ap, sym, ◌∙◌, arith, if◌then◌else◌}
+use Rattle.std.proofs.Common.{◌≡◌, ◌⊎◌, inl, inr, ℕ, suc, ◌+◌, ◌-◌, ◌==◌, ◌<◌, ◌≤◌, Bool, true, false, cond, List, [], ◌∷◌, ◌++◌, length, drop, replicate, refl, ap, sym, ◌∙◌, arith, if◌then◌else◌}
 use Rattle.std.proofs.Math.ListN.{set}
+use Rattle.std.proofs.Math.Nat.{eq-or-lt_of_le}
 use Rattle.std.proofs.Math.Seq.{set-append_seam}
 use Rattle.std.proofs.lemmas.Bool.{eq-eqb, ne_eqb}
 use Rattle.std.proofs.lemmas.List.{drop-replicate}
@@ -50,3 +51,10 @@ padded_whole piece = ap low (padded_bytes piece)
 pub length-short : (piece : List ℕ) → length piece < 16 → length (padded Short piece) ≡ 16
 length-short piece few =
     ap (λ (end : End). length (padded end piece)) (sym (short_end piece few)) ∙ length-padded_alone piece (omega arith)
+
+pub fewer : (n most : ℕ) → n ≤ most → (n ≡ most → ⊥) → n < most
+fewer n most few other = go (eq-or-lt_of_le few)
+  where
+    go : (n ≡ most) ⊎ (n < most) → n < most
+    go (inl same) = absurd (other same)
+    go (inr less) = less

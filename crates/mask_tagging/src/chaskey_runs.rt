@@ -159,7 +159,7 @@ impl<const N: usize> ChaskeyRun<N> {
     ) -> Result<(), TapeError>
         requires some { 2 ≤ N }
         requires few { N ≤ 8 }
-        requires block { length piece.now ≡ 16 }
+        requires next { IsNext (code_of self.old.scheme) fed piece.now false }
         requires behind { 0 < fed → length self.old.held.state ≡ (code_of self.old.scheme).state_bits }
         requires kept { length tape.old < 8 }
         ensures ran { OnOk result (Ran N self.old.held ((code_of self.old.scheme).next fed piece.now false) self.new.held
@@ -208,7 +208,7 @@ impl<const N: usize> ChaskeyRun<N> {
     ) -> Result<(), TapeError>
         requires some { 2 ≤ N }
         requires few { N ≤ 8 }
-        requires block { length piece.now ≡ 16 }
+        requires whole { length piece.now ≡ 16 }
         requires behind { 0 < fed → length self.old.held.state ≡ (code_of self.old.scheme).state_bits }
         requires kept { length tape.old < 8 }
         ensures ran { OnOk result (Ran N self.old.held ((code_of self.old.scheme).next fed piece.now true) self.new.held
@@ -257,7 +257,8 @@ impl<const N: usize> ChaskeyRun<N> {
     ) -> Result<(), TapeError>
         requires some { 2 ≤ N }
         requires few { N ≤ 8 }
-        requires block { length piece.now < 16 }
+        requires next { IsNext (code_of self.old.scheme) fed piece.now true }
+        requires short { length piece.now ≡ 16 → ⊥ }
         requires behind { 0 < fed → length self.old.held.state ≡ (code_of self.old.scheme).state_bits }
         requires kept { length tape.old < 8 }
         ensures ran { OnOk result (Ran N self.old.held ((code_of self.old.scheme).next fed piece.now true) self.new.held

@@ -1,7 +1,6 @@
 use Rattle.std.proofs.Common.{◌≡◌, None, length, refl, ap, arith}
 use Rattle.mask_plan.specs.Sessions.{Progress}
 use Rattle.mask_ciphers.proofs.Joining.{lines_share_keys}
-use Rattle.mask_ciphers.proofs.Writing.{all_are_ciphers}
 use Rattle.mask_message.proofs.Growing.{has_key_of}
 use Rattle.mask_message.proofs.Ending.{stops_at_start, under_task}
 use Rattle.mask_message.proofs.Telling.{streams_tell, streams_want}
@@ -9,7 +8,7 @@ use Rattle.mask_message.proofs.streaming.stream.Goals as goal
 
 pub returns-in-Err-clause-ends : goal.returns-in-Err-clause-ends
 returns-in-Err-clause-ends g c before after =
-    stops_at_start c.args.task.now g.row.N c.args.lines.now _ c.requires.some c.tasks_are_whole.ensures (all_are_ciphers c.args.task.now) c.requires.count
+    stops_at_start c.args.task.now g.row.N c.args.lines.now _ c.requires.some c.tasks_are_whole.ensures c.requires.count
     (lines_share_keys.joins c.args.task.now c.args.lines.now c.requires.shape c.requires.length) refl refl refl c.start.ensures.steps
 
 pub returns-clause-ends : goal.returns-clause-ends

@@ -1,4 +1,4 @@
-use Rattle.std.proofs.Common.{◌≡◌, ℕ, ◌+◌, ◌<◌, true, false, List, [], ◌∷◌, ◌++◌, length, map, sum_by, IfErr, OnOk, refl, ap, subst, sym, ◌∙◌, arith}
+use Rattle.std.proofs.Common.{◌≡◌, ℕ, ◌+◌, ◌<◌, ◌≤◌, true, false, List, [], ◌∷◌, ◌++◌, length, map, sum_by, IfErr, OnOk, refl, ap, subst, sym, ◌∙◌, arith}
 use Rattle.std.proofs.lemmas.List.{length-map}
 use Rattle.std.proofs.lemmas.Result.{on_ok_weaker, IfErr-weaker}
 use Rattle.mask_bits.specs.Lanes.{lane}
@@ -16,12 +16,20 @@ use Rattle.mask_chaskey.specs.declared.doubling.End.TheVariants.{Short}
 use Rattle.mask_chaskey.specs.Chaskey.{end_of}
 use Rattle.mask_macs.proofs.ChaskeyPlans.{end_outputs}
 use Rattle.mask_tagging.proofs.ChaskeyEvaluations.{end_is, end_suits}
-use Rattle.mask_tagging.proofs.ChaskeyPieces.{length-short, short_end}
+use Rattle.mask_tagging.proofs.ChaskeyPieces.{fewer, length-short, short_end}
+use Rattle.mask_macs.specs.Codes.{IsNext}
 use Rattle.mask_tagging.proofs.chaskey_runs.ChaskeyRun.take_short.Goals as goal
+
+pub short_words-message-requires : goal.short_words-message-requires
+short_words-message-requires g c =
+    let next = subst (λ (r : Between). IsNext (code_of r.scheme) c.args.fed c.args.piece.now true) (sym c.self.view_is) c.requires.next in
+    fewer (length c.args.piece.now) 16 next.0 c.requires.short
 
 pub take_behind-requires : goal.take_behind-requires
 take_behind-requires g c =
-    let suits = end_suits c.self.inside.short _ Short c.args.piece.now c.self.invariant.is_short refl refl refl c.short_words-message.ensures (length-short c.args.piece.now c.requires.block) in
+    let next = subst (λ (r : Between). IsNext (code_of r.scheme) c.args.fed c.args.piece.now true) (sym c.self.view_is) c.requires.next in
+    let few : length c.args.piece.now < 16 = fewer (length c.args.piece.now) 16 next.0 c.requires.short in
+    let suits = end_suits c.self.inside.short _ Short c.args.piece.now c.self.invariant.is_short refl refl refl c.short_words-message.ensures (length-short c.args.piece.now few) in
     let outputs : length c.self.inside.short.outputs ≡ 128 = ap (λ (n : Netlist). length n.outputs) c.self.invariant.is_short ∙ end_outputs Short in
     let behind = subst (λ (r : Between). 0 < c.args.fed → length r.held.state ≡ (code_of r.scheme).state_bits) (sym c.self.view_is) c.requires.behind in
     let there : 0 < c.args.fed → length c.self.inside.chain.state ≡ 128 = λ some. sym (length-map c.self.inside.chain.state (lane 0)) ∙ behind some in
@@ -32,7 +40,9 @@ returns-clause-ran g c =
     let Did : Registers BitShares → List Step → Type 0 = λ (held : Registers BitShares) (steps : List Step). OnOk c.take_behind.result (Ran g.row.N held steps (have c.take_behind.new.chain)
     (stand c.args.tape.now (g.E.Entropy.left c.args.entropy.now) (g.W.Watch.told c.args.watch.now))
     (stand c.take_behind.new.tape (g.E.Entropy.left c.take_behind.new.entropy) (g.W.Watch.told c.take_behind.new.watch))) in
-    let own = end_is c.self.inside.short c.short_words-message.result Short c.args.piece.now c.self.invariant.is_short c.short_words-message.ensures ∙ ap (λ (end : End). end_step end c.args.piece.now) (sym (short_end c.args.piece.now c.requires.block)) in
+    let next = subst (λ (r : Between). IsNext (code_of r.scheme) c.args.fed c.args.piece.now true) (sym c.self.view_is) c.requires.next in
+    let few : length c.args.piece.now < 16 = fewer (length c.args.piece.now) 16 next.0 c.requires.short in
+    let own = end_is c.self.inside.short c.short_words-message.result Short c.args.piece.now c.self.invariant.is_short c.short_words-message.ensures ∙ ap (λ (end : End). end_step end c.args.piece.now) (sym (short_end c.args.piece.now few)) in
     subst (λ (r : Between). Did r.held ((code_of r.scheme).next c.args.fed c.args.piece.now true)) c.self.view_is
     (subst (λ (own : Step). Did (have c.self.inside.chain) (ahead c.args.fed ++ own ∷ [])) own c.take_behind.ensures.ran)
 
@@ -44,13 +54,17 @@ returns-clause-behind g c =
 pub returns-clause-steps : goal.returns-clause-steps
 returns-clause-steps g c =
     let Did : List Step → Type 0 = λ (steps : List Step). OnOk c.take_behind.result (c.take_behind.new.steps ≡ c.args.steps.now + sum_by (λ (step : Step). length step.circuit.gates) steps) in
-    let own = end_is c.self.inside.short c.short_words-message.result Short c.args.piece.now c.self.invariant.is_short c.short_words-message.ensures ∙ ap (λ (end : End). end_step end c.args.piece.now) (sym (short_end c.args.piece.now c.requires.block)) in
+    let next = subst (λ (r : Between). IsNext (code_of r.scheme) c.args.fed c.args.piece.now true) (sym c.self.view_is) c.requires.next in
+    let few : length c.args.piece.now < 16 = fewer (length c.args.piece.now) 16 next.0 c.requires.short in
+    let own = end_is c.self.inside.short c.short_words-message.result Short c.args.piece.now c.self.invariant.is_short c.short_words-message.ensures ∙ ap (λ (end : End). end_step end c.args.piece.now) (sym (short_end c.args.piece.now few)) in
     subst (λ (r : Between). Did ((code_of r.scheme).next c.args.fed c.args.piece.now true)) c.self.view_is
     (subst (λ (own : Step). Did (ahead c.args.fed ++ own ∷ [])) own c.take_behind.ensures.steps)
 
 pub returns-clause-stopped : goal.returns-clause-stopped
 returns-clause-stopped g c =
-    let own = end_is c.self.inside.short c.short_words-message.result Short c.args.piece.now c.self.invariant.is_short c.short_words-message.ensures ∙ ap (λ (end : End). end_step end c.args.piece.now) (sym (short_end c.args.piece.now c.requires.block)) in
+    let next = subst (λ (r : Between). IsNext (code_of r.scheme) c.args.fed c.args.piece.now true) (sym c.self.view_is) c.requires.next in
+    let few : length c.args.piece.now < 16 = fewer (length c.args.piece.now) 16 next.0 c.requires.short in
+    let own = end_is c.self.inside.short c.short_words-message.result Short c.args.piece.now c.self.invariant.is_short c.short_words-message.ensures ∙ ap (λ (end : End). end_step end c.args.piece.now) (sym (short_end c.args.piece.now few)) in
     subst (λ (r : Between). IfErr c.take_behind.result (λ e. e ≡ TapeError.Failed →
     Interrupted g.row.N (code_of r.scheme) c.args.fed c.args.piece.now true r.held (have c.take_behind.new.chain) (g.E.Entropy.wanted c.take_behind.new.entropy) c.args.steps.now c.take_behind.new.steps
     (stand c.args.tape.now (g.E.Entropy.left c.args.entropy.now) (g.W.Watch.told c.args.watch.now))

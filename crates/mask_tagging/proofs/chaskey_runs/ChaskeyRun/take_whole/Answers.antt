@@ -1,4 +1,4 @@
-use Rattle.std.proofs.Common.{◌≡◌, ℕ, ◌+◌, ◌<◌, true, false, List, [], ◌∷◌, ◌++◌, length, map, sum_by, IfErr, OnOk, refl, ap, subst, sym, ◌∙◌, arith}
+use Rattle.std.proofs.Common.{◌≡◌, ℕ, ◌+◌, ◌<◌, ◌≤◌, true, false, List, [], ◌∷◌, ◌++◌, length, map, sum_by, IfErr, OnOk, refl, ap, subst, sym, ◌∙◌, arith}
 use Rattle.std.proofs.lemmas.List.{length-map}
 use Rattle.std.proofs.lemmas.Result.{on_ok_weaker, IfErr-weaker}
 use Rattle.mask_bits.specs.Lanes.{lane}
@@ -21,7 +21,7 @@ use Rattle.mask_tagging.proofs.chaskey_runs.ChaskeyRun.take_whole.Goals as goal
 
 pub take_behind-requires : goal.take_behind-requires
 take_behind-requires g c =
-    let suits = end_suits c.self.inside.whole _ Whole c.args.piece.now c.self.invariant.is_whole refl refl refl (c.block_words-message.ensures ∙ padded_whole c.args.piece.now) (sym (ap length (padded_bytes c.args.piece.now)) ∙ c.requires.block) in
+    let suits = end_suits c.self.inside.whole _ Whole c.args.piece.now c.self.invariant.is_whole refl refl refl (c.block_words-message.ensures ∙ padded_whole c.args.piece.now) (sym (ap length (padded_bytes c.args.piece.now)) ∙ c.requires.whole) in
     let outputs : length c.self.inside.whole.outputs ≡ 128 = ap (λ (n : Netlist). length n.outputs) c.self.invariant.is_whole ∙ end_outputs Whole in
     let behind = subst (λ (r : Between). 0 < c.args.fed → length r.held.state ≡ (code_of r.scheme).state_bits) (sym c.self.view_is) c.requires.behind in
     let there : 0 < c.args.fed → length c.self.inside.chain.state ≡ 128 = λ some. sym (length-map c.self.inside.chain.state (lane 0)) ∙ behind some in
@@ -32,7 +32,7 @@ returns-clause-ran g c =
     let Did : Registers BitShares → List Step → Type 0 = λ (held : Registers BitShares) (steps : List Step). OnOk c.take_behind.result (Ran g.row.N held steps (have c.take_behind.new.chain)
     (stand c.args.tape.now (g.E.Entropy.left c.args.entropy.now) (g.W.Watch.told c.args.watch.now))
     (stand c.take_behind.new.tape (g.E.Entropy.left c.take_behind.new.entropy) (g.W.Watch.told c.take_behind.new.watch))) in
-    let own = end_is c.self.inside.whole c.block_words-message.result Whole c.args.piece.now c.self.invariant.is_whole (c.block_words-message.ensures ∙ padded_whole c.args.piece.now) ∙ ap (λ (end : End). end_step end c.args.piece.now) (sym (whole_end c.args.piece.now c.requires.block)) in
+    let own = end_is c.self.inside.whole c.block_words-message.result Whole c.args.piece.now c.self.invariant.is_whole (c.block_words-message.ensures ∙ padded_whole c.args.piece.now) ∙ ap (λ (end : End). end_step end c.args.piece.now) (sym (whole_end c.args.piece.now c.requires.whole)) in
     subst (λ (r : Between). Did r.held ((code_of r.scheme).next c.args.fed c.args.piece.now true)) c.self.view_is
     (subst (λ (own : Step). Did (have c.self.inside.chain) (ahead c.args.fed ++ own ∷ [])) own c.take_behind.ensures.ran)
 
@@ -44,13 +44,13 @@ returns-clause-behind g c =
 pub returns-clause-steps : goal.returns-clause-steps
 returns-clause-steps g c =
     let Did : List Step → Type 0 = λ (steps : List Step). OnOk c.take_behind.result (c.take_behind.new.steps ≡ c.args.steps.now + sum_by (λ (step : Step). length step.circuit.gates) steps) in
-    let own = end_is c.self.inside.whole c.block_words-message.result Whole c.args.piece.now c.self.invariant.is_whole (c.block_words-message.ensures ∙ padded_whole c.args.piece.now) ∙ ap (λ (end : End). end_step end c.args.piece.now) (sym (whole_end c.args.piece.now c.requires.block)) in
+    let own = end_is c.self.inside.whole c.block_words-message.result Whole c.args.piece.now c.self.invariant.is_whole (c.block_words-message.ensures ∙ padded_whole c.args.piece.now) ∙ ap (λ (end : End). end_step end c.args.piece.now) (sym (whole_end c.args.piece.now c.requires.whole)) in
     subst (λ (r : Between). Did ((code_of r.scheme).next c.args.fed c.args.piece.now true)) c.self.view_is
     (subst (λ (own : Step). Did (ahead c.args.fed ++ own ∷ [])) own c.take_behind.ensures.steps)
 
 pub returns-clause-stopped : goal.returns-clause-stopped
 returns-clause-stopped g c =
-    let own = end_is c.self.inside.whole c.block_words-message.result Whole c.args.piece.now c.self.invariant.is_whole (c.block_words-message.ensures ∙ padded_whole c.args.piece.now) ∙ ap (λ (end : End). end_step end c.args.piece.now) (sym (whole_end c.args.piece.now c.requires.block)) in
+    let own = end_is c.self.inside.whole c.block_words-message.result Whole c.args.piece.now c.self.invariant.is_whole (c.block_words-message.ensures ∙ padded_whole c.args.piece.now) ∙ ap (λ (end : End). end_step end c.args.piece.now) (sym (whole_end c.args.piece.now c.requires.whole)) in
     subst (λ (r : Between). IfErr c.take_behind.result (λ e. e ≡ TapeError.Failed →
     Interrupted g.row.N (code_of r.scheme) c.args.fed c.args.piece.now true r.held (have c.take_behind.new.chain) (g.E.Entropy.wanted c.take_behind.new.entropy) c.args.steps.now c.take_behind.new.steps
     (stand c.args.tape.now (g.E.Entropy.left c.args.entropy.now) (g.W.Watch.told c.args.watch.now))
