@@ -5,3 +5,6 @@ mod lightmac_runs;
 mod lightmac_words;
 
 pub use lightmac_runs::LightMacRun;
+
+#[cfg(test)]
+mod lightmac_tests;
