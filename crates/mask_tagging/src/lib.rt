@@ -13,3 +13,6 @@ mod runs;
 pub use chaskey_runs::ChaskeyRun;
 pub use lightmac_runs::LightMacRun;
 pub use runs::TagRun;
+
+#[cfg(test)]
+mod lightmac_tests;

@@ -1,5 +1,6 @@
 use Rattle.std.proofs.Common.{◌≡◌, ℕ, ◌+◌, ◌*◌, ◌<◌, ◌≤◌, ◌++◌, Bool, true, false, Option, List, [], length, take, refl, sym, ap, ◌∙◌, subst, arith, length-append}
 use Rattle.std.proofs.KnownBytes.{Appends-nil, Consumes-trans}
+use Rattle.std.proofs.Math.Dec.{eqb}
 use Rattle.std.proofs.lemmas.Bool.{eq-eqb, eqb-false, eqb-true, ne_eqb}
 use Rattle.std.proofs.lemmas.List.{append-nil, length-take-le, nil_from_length}
 use Rattle.std.specs.Io.KnownBytes.{Appends, Consumes, IsAtEnd}
@@ -8,7 +9,8 @@ use Rattle.mask_tasks.specs.declared.tasks.Task.{Task}
 use Rattle.mask_tasks.specs.Tasks.{longest_message}
 use Rattle.mask_ciphers.specs.Tasks.{method_of}
 use Rattle.mask_ciphers.proofs.Batches.{may_end, some_batch}
-use Rattle.mask_plan.specs.Sessions.{Progress, batch_length, block_length, next_output}
+use Rattle.mask_ciphers.specs.Methods.{next_length}
+use Rattle.mask_plan.specs.Sessions.{Progress, batch_length, block_length, known_bytes, next_output}
 use Rattle.mask_message.proofs.Growing.{so_far-none, so_far-more, room-smaller}
 use Rattle.mask_message.proofs.Handing.{joined-long, due, tag-long}
 use Rattle.mask_message.proofs.Tagging.{none-out, room-first, room-more}
@@ -84,12 +86,127 @@ module _ (g : given.Over) (c : goal.After-in-Ok-look_ahead g) where
       c.in-Ok-look_ahead.ensures.end (omega (arith, zero, c.pieces.invariant.next_long, some_batch c.args.session.now.task))
       (λ less. c.pieces.invariant.at_end (omega (arith, c.pieces.invariant.next_long)))
 
+  -- what a code takes next
+  room : (s : Progress) (n : ℕ) → s ≡ c.pieces.session → s.fed ≡ n → n < longest_message c.args.session.now.task
+  room s n same fed = let here = ap (λ (p : Progress). p.fed) same in omega (arith, c.pieces.invariant.below)
+
+  some_piece : (n : ℕ) → c.pieces.session.fed ≡ n → 0 < n → 0 < length piece
+  some_piece n fed some = let came = c.pieces.invariant.some_came (omega arith) in omega (arith, size)
+
+  all_piece : 1 ≤ c.in-Ok-look_ahead.more → length piece ≡ batch_length c.args.session.now.task
+  all_piece some = size ∙ whole some
+
+  few_piece : length piece ≤ batch_length c.args.session.now.task
+  few_piece = omega (arith, size, c.pieces.invariant.bound)
+
+  some_more : (eqb c.in-Ok-look_ahead.more 0 ≡ false) → 1 ≤ c.in-Ok-look_ahead.more
+  some_more other = let ne : c.in-Ok-look_ahead.more ≡ 0 → ⊥ = eqb-false c.in-Ok-look_ahead.more 0 other in omega arith
+
 pub returns-in-Err-advance-clause-ends : goal.returns-in-Err-advance-clause-ends
 returns-in-Err-advance-clause-ends g c lines has before after steps begun =
     let so_far = c.pieces.invariant.so_far lines has in
-    let task = c.args.session.now.task in
-    let more_is = more_size g c.in-Ok-look_ahead-step in
+    let fed = so_far.2.behind.fed_is in
     rw c.status_of.ensures
-    (refused_tag task g.row.N lines _ c.advance.new.tape c.requires.some c.requires.whole_task so_far.0 c.pieces.session so_far.1 _ _ _ _ so_far.2 begun c.requires.tag
-    (take c.pieces.count c.pieces.piece) (take c.in-Ok-look_ahead.more c.look_ahead.new.next) _ c.in-Err-advance.stop
-    (Consumes-trans _ _ _ _ _ so_far.3 c.in-Ok-look_ahead.ensures.taken) _ _ _ _ _ _ refl c.in-Err-advance.ensures.refused)
+    (refused_tag c.args.session.now.task g.row.N lines _ c.advance.new.tape c.requires.some c.requires.whole_task so_far.0 c.pieces.session so_far.1 _ _ _ _ so_far.2 begun c.requires.tag
+    (piece g c) (more g c) _ c.in-Err-advance.stop (Consumes-trans _ _ _ (piece g c) (more g c) so_far.3 c.in-Ok-look_ahead.ensures.taken)
+    (few_piece g c) (omega (arith, more_size g c, more_bound g c))
+    (λ last. none g c (eqb-true c.in-Ok-look_ahead.more 0 last)) (some_piece g c (length so_far.0) fed)
+    (λ other. let some = some_more g c other in (all_piece g c some, omega (arith, more_size g c)))
+    (room g c c.pieces.session (length so_far.0) refl fed) refl c.in-Err-advance.ensures.refused)
+
+-- the last piece was taken
+module _ (g : given.Over) (c : goal.After-hand_out g) where
+  zero : c.in-Ok-look_ahead.more ≡ 0
+  zero = grind (arith, c.if-last.true)
+
+  last : eqb c.in-Ok-look_ahead.more 0 ≡ true
+  last = eq-eqb c.in-Ok-look_ahead.more 0 zero
+
+  all_taken : (left : Option (List ℕ)) → Consumes left (g.S.Source.left c.pieces.input) (piece g c) → Consumes left (g.S.Source.left c.look_ahead.new.input) (piece g c)
+  all_taken left taken =
+      let both = Consumes-trans _ _ _ (piece g c) (more g c) taken c.in-Ok-look_ahead.ensures.taken in
+      subst (Consumes left (g.S.Source.left c.look_ahead.new.input)) (ap (λ (bytes : List ℕ). piece g c ++ bytes) (none g c zero) ∙ append-nil (piece g c)) both
+
+  tag_long : next_length (method_of c.args.session.now.task) (piece g c) true ≡ length c.pieces.room
+  tag_long = tag-long c.args.session.now.task c.requires.tag (piece g c) ∙ omega (arith, c.requires.room)
+
+pub returns-in-Ok-hand_out-clause-ends : goal.returns-in-Ok-hand_out-clause-ends
+returns-in-Ok-hand_out-clause-ends g c lines has before after steps begun =
+    let so_far = c.pieces.invariant.so_far lines has in
+    let long = joined-long c.args.session.now.task lines has.long in
+    let is = last g c in
+    let steps_are = rw is at c.in-Ok-advance.ensures.counted in
+    let evaluated = rw is at c.in-Ok-advance.ensures.evaluated in
+    let took = rw is at c.in-Ok-advance.ensures.now in
+    finishes c.args.session.now.task g.row.N lines _ c.advance.new.tape c.requires.some c.requires.whole_task so_far.0 c.pieces.session so_far.1 _ _ _ _ so_far.2 begun
+    (piece g c) c.advance.new.session (may_end c.args.session.now.task (length so_far.0) (piece g c) (few_piece g c) (some_piece g c (length so_far.0) so_far.2.behind.fed_is))
+    long evaluated took (all_taken g c so_far.1 so_far.3) (ended g c (zero g c)) (few_piece g c) steps_are
+    (due c.args.session.now.task g.row.N lines so_far.0 (piece g c) true c.pieces.session _ _ so_far.2.behind so_far.2.whole long
+    (λ (bytes : List ℕ). Appends (g.O.Sink.written c.pieces.out) (g.O.Sink.written c.hand_out.new.out) bytes) _ c.advance.new.session
+    (tag_long g c) c.advance.ensures.bytes evaluated.hands_out c.in-Ok-hand_out.ensures.whole)
+
+pub returns-in-Err-hand_out-clause-ends : goal.returns-in-Err-hand_out-clause-ends
+returns-in-Err-hand_out-clause-ends g c lines has before after steps begun =
+    let so_far = c.pieces.invariant.so_far lines has in
+    let long = joined-long c.args.session.now.task lines has.long in
+    let is = last g c in
+    let steps_are = rw is at c.in-Ok-advance.ensures.counted in
+    let evaluated = rw is at c.in-Ok-advance.ensures.evaluated in
+    let took = rw is at c.in-Ok-advance.ensures.now in
+    cuts_tag c.args.session.now.task g.row.N lines _ c.advance.new.tape c.requires.some c.requires.whole_task so_far.0 c.pieces.session so_far.1 _ _ _ _ so_far.2 begun
+    (piece g c) c.advance.new.session (may_end c.args.session.now.task (length so_far.0) (piece g c) (few_piece g c) (some_piece g c (length so_far.0) so_far.2.behind.fed_is))
+    long evaluated took (all_taken g c so_far.1 so_far.3) (ended g c (zero g c)) (few_piece g c) steps_are c.requires.tag
+    (due c.args.session.now.task g.row.N lines so_far.0 (piece g c) true c.pieces.session _ _ so_far.2.behind so_far.2.whole long
+    (λ (bytes : List ℕ). AppendsProperPrefix (g.O.Sink.written c.pieces.out) (g.O.Sink.written c.hand_out.new.out) bytes) _ c.advance.new.session
+    (tag_long g c) c.advance.ensures.bytes evaluated.hands_out c.in-Err-hand_out.ensures.part)
+
+pub pieces-preserved : goal.pieces-preserved
+pieces-preserved g c =
+    let task = c.args.session.now.task in
+    let other : c.in-Ok-look_ahead.more ≡ 0 → ⊥ = grind (arith, c.if-last.false) in
+    let not_last = ne_eqb c.in-Ok-look_ahead.more 0 other in
+    let some : 1 ≤ c.in-Ok-look_ahead.more = some_more g c not_last in
+    let steps_are = rw not_last at c.in-Ok-advance.ensures.counted in
+    let evaluated = rw not_last at c.in-Ok-advance.ensures.evaluated in
+    let now = rw not_last at c.in-Ok-advance.ensures.now in
+    let all = all_piece g c some in
+    let copied = c.copy_from_slice.ensures.after in
+    record {
+      so_far = λ lines has.
+          let so_far = c.pieces.invariant.so_far lines has in
+          let long = joined-long task lines has.long in
+          let nothing : Appends (g.O.Sink.written c.pieces.out) (g.O.Sink.written c.pieces.out) (next_output c.pieces.session (piece g c) false)
+          = rw (none-out task c.pieces.session c.pieces.invariant.task_is c.requires.tag (piece g c)) (Appends-nil (g.O.Sink.written c.pieces.out)) in (
+            so_far.0 ++ piece g c,
+            (
+              g.S.Source.left c.pieces.input,
+              (
+                so_far-more task g.row.N lines so_far.0 (piece g c) c.pieces.session c.advance.new.session _ _ _ _ _ _ _ _ _ _ _ _ c.requires.whole_task so_far.2
+                    so_far.3 evaluated now all long nothing steps_are,
+                rw copied c.in-Ok-look_ahead.ensures.taken,
+              ),
+            ),
+          );
+      task_is = ap (λ (p : Progress). p.task) now ∙ c.pieces.invariant.task_is;
+      unclosed = ap (λ (p : Progress). p.closed) now ∙ c.pieces.invariant.unclosed;
+      unended = ap (λ (p : Progress). p.ended) now;
+      below = room-more task c.pieces.session (piece g c) c.advance.new.session.fed c.pieces.invariant.task_is c.requires.tag (ap (λ (p : Progress). p.fed) now) evaluated.within;
+      piece_long = ap length copied ∙ c.in-Ok-look_ahead.ensures.room ∙ c.pieces.invariant.next_long;
+      next_long = c.in-Ok-look_ahead.ensures.room ∙ c.pieces.invariant.next_long;
+      bound = more_bound g c;
+      some_came = λ fed. some;
+      at_end = λ less. c.in-Ok-look_ahead.ensures.end (omega (arith, c.pieces.invariant.next_long))
+          (λ short. absurd (omega (arith, whole g c some, c.pieces.invariant.next_long)));
+      input_faults = c.in-Ok-look_ahead.ensures.counts ∙ c.pieces.invariant.input_faults;
+      tape_faults = c.in-Ok-advance.ensures.tape_faults ∙ c.pieces.invariant.tape_faults;
+      out_faults = c.pieces.invariant.out_faults;
+    }
+
+pub pieces-smaller : goal.pieces-smaller
+pieces-smaller g c =
+    let task = c.args.session.now.task in
+    let other : c.in-Ok-look_ahead.more ≡ 0 → ⊥ = grind (arith, c.if-last.false) in
+    let some : 1 ≤ c.in-Ok-look_ahead.more = some_more g c (ne_eqb c.in-Ok-look_ahead.more 0 other) in
+    room-smaller task c.pieces.session.fed c.advance.new.session.fed (length (piece g c)) _ (ap (λ (p : Progress). p.fed) c.in-Ok-advance.ensures.now)
+    (subst (λ (t : Task). known_bytes c.pieces.session (piece g c) _ ≤ longest_message t) c.pieces.invariant.task_is c.in-Ok-advance.ensures.evaluated.within)
+    (all_piece g c some)
