@@ -2,5 +2,5 @@ pub mod Growing
 pub mod Ending
 pub mod Telling
 pub mod Handing
-pub mod Tagging
+pub mod Pieces
 pub mod Reading

@@ -175,6 +175,8 @@ impl<const N: usize> ChaskeyRun<N> {
             × (entropy.new ≡ entropy.old) × (W.told watch.new ≡ W.told watch.old) × (steps.new ≡ steps.old)) }
         ensures counts { E.faults entropy.new ≡ faults_after (failed_to_draw result) (E.faults entropy.old) }
     {
+        // A block of Chaskey-12 has sixteen bytes.
+        let _tag = self.tag;
         let message = block_words(piece);
         take_behind(
             alloc,
@@ -274,6 +276,8 @@ impl<const N: usize> ChaskeyRun<N> {
             × (entropy.new ≡ entropy.old) × (W.told watch.new ≡ W.told watch.old) × (steps.new ≡ steps.old)) }
         ensures counts { E.faults entropy.new ≡ faults_after (failed_to_draw result) (E.faults entropy.old) }
     {
+        // A block of Chaskey-12 has sixteen bytes.
+        let _tag = self.tag;
         let message = short_words(piece);
         take_behind(
             alloc,

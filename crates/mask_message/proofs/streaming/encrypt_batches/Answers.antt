@@ -104,8 +104,10 @@ pub batches-smaller : goal.batches-smaller
 batches-smaller g c =
     let piece : List ℕ = take c.in-Ok.count c.read_full.new.buf in
     let size : length piece ≡ c.in-Ok.count = length-take-le c.in-Ok.count c.read_full.new.buf (omega (arith, c.in-Ok.ensures.bound)) in
+    let not_last = le-ltb c.in-Ok.count (length c.read_full.new.buf) (grind (arith, c.if-last.false)) in
+    let evaluated = rw not_last at c.in-Ok-advance.ensures.evaluated in
     let all : length piece ≡ batch_length c.args.session.now.task = grind (arith, c.in-Ok.ensures.bound, size, c.if-last.false) in
     room-smaller c.args.session.now.task c.batches.session.fed c.advance.new.session.fed (length piece) _
     (ap (λ (p : Progress). p.fed) c.in-Ok-advance.ensures.now)
-    (subst (λ (t : Task). known_bytes c.batches.session piece _ ≤ longest_message t) c.batches.invariant.task_is c.in-Ok-advance.ensures.evaluated.within)
+    (subst (λ (t : Task). known_bytes c.batches.session piece false ≤ longest_message t) c.batches.invariant.task_is evaluated.within)
     all

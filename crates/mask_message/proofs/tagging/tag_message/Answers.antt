@@ -13,9 +13,10 @@ use Rattle.mask_ciphers.specs.Methods.{next_length}
 use Rattle.mask_plan.specs.Sessions.{Progress, batch_length, block_length, known_bytes, next_output}
 use Rattle.mask_message.proofs.Growing.{so_far-none, so_far-more, room-smaller}
 use Rattle.mask_message.proofs.Handing.{joined-long, due, tag-long}
-use Rattle.mask_message.proofs.Tagging.{none-out, room-first, room-more}
+use Rattle.mask_message.proofs.Pieces.{none-out, room-first, room-more}
 use Rattle.mask_message.proofs.Ending.{cuts_tag, finishes, refused_tag, stops_looking}
 use Rattle.mask_message.proofs.tagging.tag_message.Given as given
+use Rattle.mask_message.proofs.tagging.tag_message.Goals.{In-Ok-look_ahead}
 use Rattle.mask_message.proofs.tagging.tag_message.Goals as goal
 
 pub returns-in-Err-clause-ends : goal.returns-in-Err-clause-ends
@@ -29,7 +30,7 @@ pub pieces-init : goal.pieces-init
 pieces-init g c = record {
   so_far = λ lines has.
       rw c.new-tape.ensures
-      ([], (_, (so_far-none c.args.session.now.task g.row.N lines c.args.session.now _ _ _ _ refl has.begins has.key, c.in-Ok.ensures.taken)));
+      ([], _, so_far-none c.args.session.now.task g.row.N lines c.args.session.now _ _ _ _ refl has.begins has.key, c.in-Ok.ensures.taken);
   task_is = refl;
   unclosed = c.requires.unclosed;
   unended = c.requires.unended;
@@ -57,7 +58,7 @@ returns-in-Err-look_ahead-clause-ends g c lines has before after steps begun =
     (omega (arith, both, size, part.2, c.pieces.invariant.bound, c.pieces.invariant.next_long)) refl refl refl
 
 -- the piece, and what was read behind it
-module _ (g : given.Over) (c : goal.After-in-Ok-look_ahead g) where
+module _ (g : given.Over) (c : In-Ok-look_ahead g) where
   abbrev piece : List ℕ
   piece = take c.pieces.count c.pieces.piece
 
@@ -102,101 +103,97 @@ module _ (g : given.Over) (c : goal.After-in-Ok-look_ahead g) where
   some_more : (eqb c.in-Ok-look_ahead.more 0 ≡ false) → 1 ≤ c.in-Ok-look_ahead.more
   some_more other = let ne : c.in-Ok-look_ahead.more ≡ 0 → ⊥ = eqb-false c.in-Ok-look_ahead.more 0 other in omega arith
 
+  -- the last piece
+  all_taken : c.in-Ok-look_ahead.more ≡ 0 → (left : Option (List ℕ)) → Consumes left (g.S.Source.left c.pieces.input) piece →
+      Consumes left (g.S.Source.left c.look_ahead.new.input) piece
+  all_taken zero left taken =
+      subst (Consumes left (g.S.Source.left c.look_ahead.new.input)) (ap (λ (bytes : List ℕ). piece ++ bytes) (none zero) ∙ append-nil piece)
+      (Consumes-trans _ _ _ piece more taken c.in-Ok-look_ahead.ensures.taken)
+
+  tag_long : next_length (method_of c.args.session.now.task) piece true ≡ length c.pieces.room
+  tag_long = tag-long c.args.session.now.task c.requires.tag piece ∙ omega (arith, c.requires.room)
+
 pub returns-in-Err-advance-clause-ends : goal.returns-in-Err-advance-clause-ends
 returns-in-Err-advance-clause-ends g c lines has before after steps begun =
+    let at = (goal.at.returns-in-Err-advance-clause-ends g c).In-Ok-look_ahead in
     let so_far = c.pieces.invariant.so_far lines has in
     let fed = so_far.2.behind.fed_is in
     rw c.status_of.ensures
     (refused_tag c.args.session.now.task g.row.N lines _ c.advance.new.tape c.requires.some c.requires.whole_task so_far.0 c.pieces.session so_far.1 _ _ _ _ so_far.2 begun c.requires.tag
-    (piece g c) (more g c) _ c.in-Err-advance.stop (Consumes-trans _ _ _ (piece g c) (more g c) so_far.3 c.in-Ok-look_ahead.ensures.taken)
-    (few_piece g c) (omega (arith, more_size g c, more_bound g c))
-    (λ last. none g c (eqb-true c.in-Ok-look_ahead.more 0 last)) (some_piece g c (length so_far.0) fed)
-    (λ other. let some = some_more g c other in (all_piece g c some, omega (arith, more_size g c)))
-    (room g c c.pieces.session (length so_far.0) refl fed) refl c.in-Err-advance.ensures.refused)
-
--- the last piece was taken
-module _ (g : given.Over) (c : goal.After-hand_out g) where
-  zero : c.in-Ok-look_ahead.more ≡ 0
-  zero = grind (arith, c.if-last.true)
-
-  last : eqb c.in-Ok-look_ahead.more 0 ≡ true
-  last = eq-eqb c.in-Ok-look_ahead.more 0 zero
-
-  all_taken : (left : Option (List ℕ)) → Consumes left (g.S.Source.left c.pieces.input) (piece g c) → Consumes left (g.S.Source.left c.look_ahead.new.input) (piece g c)
-  all_taken left taken =
-      let both = Consumes-trans _ _ _ (piece g c) (more g c) taken c.in-Ok-look_ahead.ensures.taken in
-      subst (Consumes left (g.S.Source.left c.look_ahead.new.input)) (ap (λ (bytes : List ℕ). piece g c ++ bytes) (none g c zero) ∙ append-nil (piece g c)) both
-
-  tag_long : next_length (method_of c.args.session.now.task) (piece g c) true ≡ length c.pieces.room
-  tag_long = tag-long c.args.session.now.task c.requires.tag (piece g c) ∙ omega (arith, c.requires.room)
+    (piece g at) (more g at) _ c.in-Err-advance.stop (Consumes-trans _ _ _ (piece g at) (more g at) so_far.3 c.in-Ok-look_ahead.ensures.taken)
+    (few_piece g at) (omega (arith, more_size g at, more_bound g at))
+    (λ last. none g at (eqb-true c.in-Ok-look_ahead.more 0 last)) (some_piece g at (length so_far.0) fed)
+    (λ other. let some = some_more g at other in (all_piece g at some, omega (arith, more_size g at)))
+    (room g at c.pieces.session (length so_far.0) refl fed) refl c.in-Err-advance.ensures.refused)
 
 pub returns-in-Ok-hand_out-clause-ends : goal.returns-in-Ok-hand_out-clause-ends
 returns-in-Ok-hand_out-clause-ends g c lines has before after steps begun =
+    let at = (goal.at.returns-in-Ok-hand_out-clause-ends g c).In-Ok-look_ahead in
     let so_far = c.pieces.invariant.so_far lines has in
     let long = joined-long c.args.session.now.task lines has.long in
-    let is = last g c in
+    let zero : c.in-Ok-look_ahead.more ≡ 0 = grind (arith, c.if-last.true) in
+    let is = eq-eqb c.in-Ok-look_ahead.more 0 zero in
     let steps_are = rw is at c.in-Ok-advance.ensures.counted in
     let evaluated = rw is at c.in-Ok-advance.ensures.evaluated in
     let took = rw is at c.in-Ok-advance.ensures.now in
     finishes c.args.session.now.task g.row.N lines _ c.advance.new.tape c.requires.some c.requires.whole_task so_far.0 c.pieces.session so_far.1 _ _ _ _ so_far.2 begun
-    (piece g c) c.advance.new.session (may_end c.args.session.now.task (length so_far.0) (piece g c) (few_piece g c) (some_piece g c (length so_far.0) so_far.2.behind.fed_is))
-    long evaluated took (all_taken g c so_far.1 so_far.3) (ended g c (zero g c)) (few_piece g c) steps_are
-    (due c.args.session.now.task g.row.N lines so_far.0 (piece g c) true c.pieces.session _ _ so_far.2.behind so_far.2.whole long
+    (piece g at) c.advance.new.session (may_end c.args.session.now.task (length so_far.0) (piece g at) (few_piece g at) (some_piece g at (length so_far.0) so_far.2.behind.fed_is))
+    long evaluated took (all_taken g at zero so_far.1 so_far.3) (ended g at zero) (few_piece g at) steps_are
+    (due c.args.session.now.task g.row.N lines so_far.0 (piece g at) true c.pieces.session _ _ so_far.2.behind so_far.2.whole long
     (λ (bytes : List ℕ). Appends (g.O.Sink.written c.pieces.out) (g.O.Sink.written c.hand_out.new.out) bytes) _ c.advance.new.session
-    (tag_long g c) c.advance.ensures.bytes evaluated.hands_out c.in-Ok-hand_out.ensures.whole)
+    (tag_long g at) c.advance.ensures.bytes evaluated.hands_out c.in-Ok-hand_out.ensures.whole)
 
 pub returns-in-Err-hand_out-clause-ends : goal.returns-in-Err-hand_out-clause-ends
 returns-in-Err-hand_out-clause-ends g c lines has before after steps begun =
+    let at = (goal.at.returns-in-Err-hand_out-clause-ends g c).In-Ok-look_ahead in
     let so_far = c.pieces.invariant.so_far lines has in
     let long = joined-long c.args.session.now.task lines has.long in
-    let is = last g c in
+    let zero : c.in-Ok-look_ahead.more ≡ 0 = grind (arith, c.if-last.true) in
+    let is = eq-eqb c.in-Ok-look_ahead.more 0 zero in
     let steps_are = rw is at c.in-Ok-advance.ensures.counted in
     let evaluated = rw is at c.in-Ok-advance.ensures.evaluated in
     let took = rw is at c.in-Ok-advance.ensures.now in
     cuts_tag c.args.session.now.task g.row.N lines _ c.advance.new.tape c.requires.some c.requires.whole_task so_far.0 c.pieces.session so_far.1 _ _ _ _ so_far.2 begun
-    (piece g c) c.advance.new.session (may_end c.args.session.now.task (length so_far.0) (piece g c) (few_piece g c) (some_piece g c (length so_far.0) so_far.2.behind.fed_is))
-    long evaluated took (all_taken g c so_far.1 so_far.3) (ended g c (zero g c)) (few_piece g c) steps_are c.requires.tag
-    (due c.args.session.now.task g.row.N lines so_far.0 (piece g c) true c.pieces.session _ _ so_far.2.behind so_far.2.whole long
+    (piece g at) c.advance.new.session (may_end c.args.session.now.task (length so_far.0) (piece g at) (few_piece g at) (some_piece g at (length so_far.0) so_far.2.behind.fed_is))
+    long evaluated took (all_taken g at zero so_far.1 so_far.3) (ended g at zero) (few_piece g at) steps_are c.requires.tag
+    (due c.args.session.now.task g.row.N lines so_far.0 (piece g at) true c.pieces.session _ _ so_far.2.behind so_far.2.whole long
     (λ (bytes : List ℕ). AppendsProperPrefix (g.O.Sink.written c.pieces.out) (g.O.Sink.written c.hand_out.new.out) bytes) _ c.advance.new.session
-    (tag_long g c) c.advance.ensures.bytes evaluated.hands_out c.in-Err-hand_out.ensures.part)
+    (tag_long g at) c.advance.ensures.bytes evaluated.hands_out c.in-Err-hand_out.ensures.part)
 
 pub pieces-preserved : goal.pieces-preserved
 pieces-preserved g c =
+    let at = (goal.at.pieces-preserved g c).In-Ok-look_ahead in
     let task = c.args.session.now.task in
     let other : c.in-Ok-look_ahead.more ≡ 0 → ⊥ = grind (arith, c.if-last.false) in
     let not_last = ne_eqb c.in-Ok-look_ahead.more 0 other in
-    let some : 1 ≤ c.in-Ok-look_ahead.more = some_more g c not_last in
+    let some : 1 ≤ c.in-Ok-look_ahead.more = some_more g at not_last in
     let steps_are = rw not_last at c.in-Ok-advance.ensures.counted in
     let evaluated = rw not_last at c.in-Ok-advance.ensures.evaluated in
     let now = rw not_last at c.in-Ok-advance.ensures.now in
-    let all = all_piece g c some in
+    let all = all_piece g at some in
     let copied = c.copy_from_slice.ensures.after in
     record {
       so_far = λ lines has.
           let so_far = c.pieces.invariant.so_far lines has in
           let long = joined-long task lines has.long in
-          let nothing : Appends (g.O.Sink.written c.pieces.out) (g.O.Sink.written c.pieces.out) (next_output c.pieces.session (piece g c) false)
-          = rw (none-out task c.pieces.session c.pieces.invariant.task_is c.requires.tag (piece g c)) (Appends-nil (g.O.Sink.written c.pieces.out)) in (
-            so_far.0 ++ piece g c,
-            (
-              g.S.Source.left c.pieces.input,
-              (
-                so_far-more task g.row.N lines so_far.0 (piece g c) c.pieces.session c.advance.new.session _ _ _ _ _ _ _ _ _ _ _ _ c.requires.whole_task so_far.2
-                    so_far.3 evaluated now all long nothing steps_are,
-                rw copied c.in-Ok-look_ahead.ensures.taken,
-              ),
-            ),
+          let nothing : Appends (g.O.Sink.written c.pieces.out) (g.O.Sink.written c.pieces.out) (next_output c.pieces.session (piece g at) false)
+          = rw (none-out task c.pieces.session c.pieces.invariant.task_is c.requires.tag (piece g at)) (Appends-nil (g.O.Sink.written c.pieces.out)) in (
+            so_far.0 ++ piece g at,
+            g.S.Source.left c.pieces.input,
+            so_far-more task g.row.N lines so_far.0 (piece g at) c.pieces.session c.advance.new.session _ _ _ _ _ _ _ _ _ _ _ _ c.requires.whole_task so_far.2
+                so_far.3 evaluated now all long nothing steps_are,
+            rw copied c.in-Ok-look_ahead.ensures.taken,
           );
       task_is = ap (λ (p : Progress). p.task) now ∙ c.pieces.invariant.task_is;
       unclosed = ap (λ (p : Progress). p.closed) now ∙ c.pieces.invariant.unclosed;
       unended = ap (λ (p : Progress). p.ended) now;
-      below = room-more task c.pieces.session (piece g c) c.advance.new.session.fed c.pieces.invariant.task_is c.requires.tag (ap (λ (p : Progress). p.fed) now) evaluated.within;
+      below = room-more task c.pieces.session (piece g at) c.advance.new.session.fed c.pieces.invariant.task_is c.requires.tag (ap (λ (p : Progress). p.fed) now) evaluated.within;
       piece_long = ap length copied ∙ c.in-Ok-look_ahead.ensures.room ∙ c.pieces.invariant.next_long;
       next_long = c.in-Ok-look_ahead.ensures.room ∙ c.pieces.invariant.next_long;
-      bound = more_bound g c;
+      bound = more_bound g at;
       some_came = λ fed. some;
       at_end = λ less. c.in-Ok-look_ahead.ensures.end (omega (arith, c.pieces.invariant.next_long))
-          (λ short. absurd (omega (arith, whole g c some, c.pieces.invariant.next_long)));
+          (λ short. absurd (omega (arith, whole g at some, c.pieces.invariant.next_long)));
       input_faults = c.in-Ok-look_ahead.ensures.counts ∙ c.pieces.invariant.input_faults;
       tape_faults = c.in-Ok-advance.ensures.tape_faults ∙ c.pieces.invariant.tape_faults;
       out_faults = c.pieces.invariant.out_faults;
@@ -204,9 +201,9 @@ pieces-preserved g c =
 
 pub pieces-smaller : goal.pieces-smaller
 pieces-smaller g c =
-    let task = c.args.session.now.task in
-    let other : c.in-Ok-look_ahead.more ≡ 0 → ⊥ = grind (arith, c.if-last.false) in
-    let some : 1 ≤ c.in-Ok-look_ahead.more = some_more g c (ne_eqb c.in-Ok-look_ahead.more 0 other) in
-    room-smaller task c.pieces.session.fed c.advance.new.session.fed (length (piece g c)) _ (ap (λ (p : Progress). p.fed) c.in-Ok-advance.ensures.now)
-    (subst (λ (t : Task). known_bytes c.pieces.session (piece g c) _ ≤ longest_message t) c.pieces.invariant.task_is c.in-Ok-advance.ensures.evaluated.within)
-    (all_piece g c some)
+    let at = (goal.at.pieces-smaller g c).In-Ok-look_ahead in
+    let not_last = ne_eqb c.in-Ok-look_ahead.more 0 (grind (arith, c.if-last.false)) in
+    let evaluated = rw not_last at c.in-Ok-advance.ensures.evaluated in
+    room-smaller c.args.session.now.task c.pieces.session.fed c.advance.new.session.fed (length (piece g at)) _ (ap (λ (p : Progress). p.fed) c.in-Ok-advance.ensures.now)
+    (subst (λ (t : Task). known_bytes c.pieces.session (piece g at) false ≤ longest_message t) c.pieces.invariant.task_is evaluated.within)
+    (all_piece g at (some_more g at not_last))
