@@ -125,7 +125,7 @@ some_block (Trivium iv) = omega arith
 some_block (LightMac size counter tag) = (lightmac_tag-bounds tag).0
 some_block (Chaskey tag) = (chaskey_tag-bounds tag).0
 
--- a batch and a block are no longer than the most bytes of any
+-- a batch is no longer than the most bytes of any
 pub batch_fits : (task : Task) → batch_length task ≤ 1024
 batch_fits (Present size iv) = omega arith
 batch_fits (Lea size iv) = omega arith
@@ -133,9 +133,17 @@ batch_fits (Trivium iv) = omega arith
 batch_fits (LightMac size counter tag) = omega arith
 batch_fits (Chaskey tag) = omega arith
 
-pub block_fits : (task : Task) → block_length task ≤ 1024
-block_fits (Present size iv) = omega arith
-block_fits (Lea size iv) = omega arith
-block_fits (Trivium iv) = omega arith
-block_fits (LightMac size counter tag) = omega (arith, (lightmac_tag-bounds tag).1)
-block_fits (Chaskey tag) = omega (arith, (chaskey_tag-bounds tag).1)
+-- and a piece of a code and its tag no longer than 16
+pub piece_fits : (task : Task) → (IsCipher (method_of task) → ⊥) → batch_length task ≤ 16
+piece_fits (Present size iv) tag = absurd (tag tt)
+piece_fits (Lea size iv) tag = absurd (tag tt)
+piece_fits (Trivium iv) tag = absurd (tag tt)
+piece_fits (LightMac size counter tag_bytes) tag = omega arith
+piece_fits (Chaskey tag_bytes) tag = omega arith
+
+pub tag_fits : (task : Task) → (IsCipher (method_of task) → ⊥) → block_length task ≤ 16
+tag_fits (Present size iv) tag = absurd (tag tt)
+tag_fits (Lea size iv) tag = absurd (tag tt)
+tag_fits (Trivium iv) tag = absurd (tag tt)
+tag_fits (LightMac size counter tag_bytes) tag = omega (arith, (lightmac_tag-bounds tag_bytes).1)
+tag_fits (Chaskey tag_bytes) tag = (chaskey_tag-bounds tag_bytes).1

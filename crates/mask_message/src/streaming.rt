@@ -19,7 +19,7 @@ ghost use Rattle.mask_message.specs.Sessions.{HasKeyOf, HasTaken};
 ghost use Rattle.mask_message.specs.Stopping.{is_of_tape, status_of};
 
 use crate::bytes::hand_out;
-use crate::tagging::tag_message;
+use crate::tagging::tag_all;
 use mask_circuit::Steps;
 use mask_eval::Watch;
 use mask_io::{Entropy, Sink, Source, read_full};
@@ -77,39 +77,106 @@ pub(crate) fn stream<const N: usize, S: Source, E: Entropy, O: Sink, W: Watch, L
         Ok(session) => session,
         Err(_) => return Status::NoMemory,
     };
+    take_all(&mut session, input, entropy, out, watch, steps)
+}
+
+// Takes all that the input has left under the key of a session that begins: it becomes a ciphertext or a tag.
+fn take_all<const N: usize, S: Source, E: Entropy, O: Sink, W: Watch, L: Ledger>(
+    session: &mut Session<N>,
+    input: &mut S,
+    entropy: &mut E,
+    out: &mut O,
+    watch: &mut W,
+    steps: &mut Steps<L>,
+) -> Status
+    requires some { 2 ≤ N }
+    requires few { N ≤ 8 }
+    requires whole_task { IsTask session.old.task }
+    requires unclosed { session.old.closed ≡ None }
+    requires unended { session.old.ended ≡ false }
+    requires unfed { session.old.fed ≡ 0 }
+
+    // Wherever the count stood before the session began.
+    ensures ends { (lines : List (List ℕ)) → HasKeyOf lines session.old → (keys_before keys_after : Option (List ℕ)) (steps_before : ℕ) →
+        steps.old ≤ steps_before + start_steps (method_of session.old.task) → TakesMessage session.old.task N lines
+        (record {
+          keys_before = keys_before;
+          keys_after = keys_after;
+          left_before = S.left input.old;
+          left_after = S.left input.new;
+          tape_before = E.left entropy.old;
+          tape_after = E.left entropy.new;
+          wanted = E.wanted entropy.new;
+          out_before = O.written out.old;
+          out_after = O.written out.new;
+          told_before = W.told watch.old;
+          told_after = W.told watch.new;
+          steps_before = steps_before;
+          steps_after = steps.new;
+        }) result }
+    ensures input_faults { S.faults input.new ≡ faults_after (is_read_fault result) (S.faults input.old) }
+    ensures tape_faults { E.faults entropy.new ≡ faults_after (is_tape_fault result) (E.faults entropy.old) }
+    ensures out_faults { O.faults out.new ≡ faults_after (is_write_fault result) (O.faults out.old) }
+{
+    if session.makes_tag() {
+        tag_all(session, input, entropy, out, watch, steps)
+    } else {
+        encrypt_all(session, input, entropy, out, watch, steps)
+    }
+}
+
+// Encrypts all that the input has left under the key of a session that begins.
+#[tactic(auto, using(crate::proofs::Handing::batch_fits))]
+fn encrypt_all<const N: usize, S: Source, E: Entropy, O: Sink, W: Watch, L: Ledger>(
+    session: &mut Session<N>,
+    input: &mut S,
+    entropy: &mut E,
+    out: &mut O,
+    watch: &mut W,
+    steps: &mut Steps<L>,
+) -> Status
+    requires some { 2 ≤ N }
+    requires few { N ≤ 8 }
+    requires whole_task { IsTask session.old.task }
+    requires cipher { IsCipher (method_of session.old.task) }
+    requires unclosed { session.old.closed ≡ None }
+    requires unended { session.old.ended ≡ false }
+
+    // Wherever the count stood before the session began.
+    ensures ends { (lines : List (List ℕ)) → HasKeyOf lines session.old → (keys_before keys_after : Option (List ℕ)) (steps_before : ℕ) →
+        steps.old ≤ steps_before + start_steps (method_of session.old.task) → TakesMessage session.old.task N lines
+        (record {
+          keys_before = keys_before;
+          keys_after = keys_after;
+          left_before = S.left input.old;
+          left_after = S.left input.new;
+          tape_before = E.left entropy.old;
+          tape_after = E.left entropy.new;
+          wanted = E.wanted entropy.new;
+          out_before = O.written out.old;
+          out_after = O.written out.new;
+          told_before = W.told watch.old;
+          told_after = W.told watch.new;
+          steps_before = steps_before;
+          steps_after = steps.new;
+        }) result }
+    ensures input_faults { S.faults input.new ≡ faults_after (is_read_fault result) (S.faults input.old) }
+    ensures tape_faults { E.faults entropy.new ≡ faults_after (is_tape_fault result) (E.faults entropy.old) }
+    ensures out_faults { O.faults out.new ≡ faults_after (is_write_fault result) (O.faults out.old) }
+{
     let batch = session.batch_bytes();
-    let block = session.block_bytes();
     let mut taken = [0; ROOM];
     let mut given = [0; ROOM];
-    let piece = &mut taken[..batch];
-    if session.makes_tag() {
-        let mut next = [0; ROOM];
-        let next = &mut next[..batch];
-        let room = &mut given[..block];
-        tag_message(
-            &mut session,
-            piece,
-            next,
-            room,
-            input,
-            entropy,
-            out,
-            watch,
-            steps,
-        )
-    } else {
-        let room = &mut given[..batch];
-        encrypt_batches(
-            &mut session,
-            piece,
-            room,
-            input,
-            entropy,
-            out,
-            watch,
-            steps,
-        )
-    }
+    encrypt_batches(
+        session,
+        &mut taken[..batch],
+        &mut given[..batch],
+        input,
+        entropy,
+        out,
+        watch,
+        steps,
+    )
 }
 
 // Encrypts all that the input has left under the key of a session that begins. Batches are read into `piece`, and unmasked

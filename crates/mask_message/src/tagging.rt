@@ -22,9 +22,69 @@ use mask_status::Status;
 use mask_tape::Tape;
 use std::sync::ledger::Ledger;
 
-/// Makes the tag of all that the input has left, under the key of a session that begins, and writes it by one write. Pieces are
-/// read into `piece`, what comes behind them into `next`, and the tag is unmasked into `room`.
-pub(crate) fn tag_message<const N: usize, S: Source, E: Entropy, O: Sink, W: Watch, L: Ledger>(
+// The most bytes of a piece, and of a tag.
+const ROOM: usize = 16;
+
+/// Makes the tag of all that the input has left, under the key of a session that begins, and writes it by one write.
+#[tactic(auto, using(crate::proofs::Handing::piece_fits, crate::proofs::Handing::tag_fits))]
+pub(crate) fn tag_all<const N: usize, S: Source, E: Entropy, O: Sink, W: Watch, L: Ledger>(
+    session: &mut Session<N>,
+    input: &mut S,
+    entropy: &mut E,
+    out: &mut O,
+    watch: &mut W,
+    steps: &mut Steps<L>,
+) -> Status
+    requires some { 2 ≤ N }
+    requires few { N ≤ 8 }
+    requires whole_task { IsTask session.old.task }
+    requires tag { IsCipher (method_of session.old.task) → ⊥ }
+    requires unclosed { session.old.closed ≡ None }
+    requires unended { session.old.ended ≡ false }
+    requires unfed { session.old.fed ≡ 0 }
+
+    // Wherever the count stood before the session began.
+    ensures ends { (lines : List (List ℕ)) → HasKeyOf lines session.old → (keys_before keys_after : Option (List ℕ)) (steps_before : ℕ) →
+        steps.old ≤ steps_before + start_steps (method_of session.old.task) → TakesMessage session.old.task N lines
+        (record {
+          keys_before = keys_before;
+          keys_after = keys_after;
+          left_before = S.left input.old;
+          left_after = S.left input.new;
+          tape_before = E.left entropy.old;
+          tape_after = E.left entropy.new;
+          wanted = E.wanted entropy.new;
+          out_before = O.written out.old;
+          out_after = O.written out.new;
+          told_before = W.told watch.old;
+          told_after = W.told watch.new;
+          steps_before = steps_before;
+          steps_after = steps.new;
+        }) result }
+    ensures input_faults { S.faults input.new ≡ faults_after (is_read_fault result) (S.faults input.old) }
+    ensures tape_faults { E.faults entropy.new ≡ faults_after (is_tape_fault result) (E.faults entropy.old) }
+    ensures out_faults { O.faults out.new ≡ faults_after (is_write_fault result) (O.faults out.old) }
+{
+    let batch = session.batch_bytes();
+    let block = session.block_bytes();
+    let mut piece = [0; ROOM];
+    let mut next = [0; ROOM];
+    let mut tag = [0; ROOM];
+    tag_message(
+        session,
+        &mut piece[..batch],
+        &mut next[..batch],
+        &mut tag[..block],
+        input,
+        entropy,
+        out,
+        watch,
+        steps,
+    )
+}
+
+// Makes that tag. Pieces are read into `piece`, what comes behind them into `next`, and the tag is unmasked into `room`.
+fn tag_message<const N: usize, S: Source, E: Entropy, O: Sink, W: Watch, L: Ledger>(
     session: &mut Session<N>,
     piece: &mut [u8],
     next: &mut [u8],

@@ -17,15 +17,15 @@ returns-clause-ends g c before after =
     let key = lines_share_keys.joins c.args.task.now c.args.lines.now c.requires.shape c.requires.length in
     let same : c.in-Ok.session.task ≡ c.args.task.now = ap (λ (p : Progress). p.task) begins in
     under_task c.args.task.now c.in-Ok.session.task g.row.N c.args.lines.now _ _ c.requires.count same
-    (c.encrypt_batches.ensures.ends c.args.lines.now (has_key_of c.args.task.now c.args.lines.now c.in-Ok.session begins c.requires.length key) before after c.args.steps.now
+    (c.take_all.ensures.ends c.args.lines.now (has_key_of c.args.task.now c.args.lines.now c.in-Ok.session begins c.requires.length key) before after c.args.steps.now
     (rw same c.start.ensures.steps))
 
 pub returns-clause-secure : goal.returns-clause-secure
 returns-clause-secure g c =
     let takes = returns-clause-ends g c None None in
-    streams_tell c.args.task.now (length c.args.lines.now) c.args.lines.now _ (omega (arith, c.requires.some, c.requires.count)) c.tasks_are_whole.ensures refl takes.bytes c.encrypt_batches.result takes.streams
+    streams_tell c.args.task.now (length c.args.lines.now) c.args.lines.now _ (omega (arith, c.requires.some, c.requires.count)) c.tasks_are_whole.ensures refl takes.bytes c.take_all.result takes.streams
 
 pub returns-clause-wants : goal.returns-clause-wants
 returns-clause-wants g c is =
     let takes = returns-clause-ends g c None None in
-    streams_want c.args.task.now (length c.args.lines.now) c.args.lines.now _ takes.bytes c.encrypt_batches.result takes.streams is
+    streams_want c.args.task.now (length c.args.lines.now) c.args.lines.now _ takes.bytes c.take_all.result takes.streams is
