@@ -193,8 +193,8 @@ fn run_job<K: Source, S: Source, E: Entropy, O: Sink, W: Watch, L: Ledger>(
         Job::Enc { task, order } => {
             return enc(alloc, &task, order, keys, input, tape, out, watch, steps);
         }
-        Job::Mac { task, order } => {
-            return enc(alloc, &task, order, keys, input, tape, out, watch, steps);
+        Job::Mac { task: code, order } => {
+            return enc(alloc, &code, order, keys, input, tape, out, watch, steps);
         }
         Job::Split { order } => return split(alloc, order, keys, tape, out),
         Job::Join { order } => return join(order, keys, out),
