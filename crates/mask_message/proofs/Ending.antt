@@ -658,9 +658,9 @@ stops_at_start task N lines o some is_task many key unread unwritten idle begun 
     let taken = subst (λ (left : Option (List ℕ)). Consumes o.left_before left []) (sym unread) (Consumes-nil o.left_before) in
     under_task task task N lines o NoMemory many refl (elim (cipher_or_tag task) [
       | inl cipher ↦ stops_short task N lines o [] some is_task [] first o.left_before o.out_before o.steps_after o.steps_after (at_first o) so_far begun cipher
-      [] taken (omega arith) unwritten idle refl
+          [] taken (omega arith) unwritten idle refl
       | inr tag ↦ stops_tag task N lines o [] some is_task [] first o.left_before o.out_before o.steps_after o.steps_after (at_first o) so_far begun tag
-      [] taken (λ none. none) (omega arith) unwritten idle refl
+          [] taken (λ none. none) (omega arith) unwritten idle refl
     ])
 
 -- the status says that the tape failed where the refusal does

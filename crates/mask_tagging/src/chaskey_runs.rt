@@ -234,7 +234,13 @@ impl<const N: usize> ChaskeyRun<N> {
             &mut self.start,
             &mut self.whole,
             &Evaluation {
-                before: &[Source::State { count: 128 }, Source::Key { from: 0, count: 128 }],
+                before: &[
+                    Source::State { count: 128 },
+                    Source::Key {
+                        from: 0,
+                        count: 128,
+                    },
+                ],
                 message: &message,
                 behind: &[],
                 keep: Keep::AsState,
@@ -286,7 +292,13 @@ impl<const N: usize> ChaskeyRun<N> {
             &mut self.start,
             &mut self.short,
             &Evaluation {
-                before: &[Source::State { count: 128 }, Source::Key { from: 0, count: 128 }],
+                before: &[
+                    Source::State { count: 128 },
+                    Source::Key {
+                        from: 0,
+                        count: 128,
+                    },
+                ],
                 message: &message,
                 behind: &[],
                 keep: Keep::AsState,
@@ -338,14 +350,15 @@ fn take_behind<const N: usize, E: Entropy, W: Watch, L: Ledger>(
 {
     if fed == 0 {
         let first = Evaluation {
-            before: &[Source::Key { from: 0, count: 128 }],
+            before: &[Source::Key {
+                from: 0,
+                count: 128,
+            }],
             message: &[],
             behind: &[],
             keep: Keep::AsState,
         };
-        chain.take_two(
-            alloc, start, &first, part, own, tape, entropy, watch, steps,
-        )
+        chain.take_two(alloc, start, &first, part, own, tape, entropy, watch, steps)
     } else {
         chain.take(alloc, part, own, tape, entropy, watch, steps)
     }

@@ -80,7 +80,9 @@ impl<const N: usize> TagRun<N> {
         ensures counts { E.faults entropy.new ≡ faults_after (failed_to_draw result) (E.faults entropy.old) }
     {
         match self {
-            TagRun::LightMac(run) => run.piece(alloc, fed, piece, last, tape, entropy, watch, steps),
+            TagRun::LightMac(run) => run.piece(
+                alloc, fed, piece, last, tape, entropy, watch, steps,
+            ),
             TagRun::Chaskey(run) => run.piece(alloc, fed, piece, last, tape, entropy, watch, steps),
         }
     }
