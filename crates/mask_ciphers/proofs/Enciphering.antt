@@ -24,6 +24,7 @@ use Rattle.mask_modes.proofs.Numbers.{numbers_are_blocks}
 use Rattle.mask_ciphers.specs.Tasks.{present_mode, lea_mode}
 use Rattle.mask_ciphers.specs.Laws.{TasksEncipher}
 use Rattle.mask_tasks.specs.Limits.{chaskey_tag}
+use Rattle.mask_macs.proofs.Refreshes.{outputs-refreshing}
 use Rattle.mask_ciphers.proofs.Tagging.{chaskey_makes, lightmac_makes}
 
 -- PARTS OF AN INPUT
@@ -54,10 +55,6 @@ of_parts w b encrypt key counter block key_long counter_long block_long =
     ap₂ (λ (c m : ℕ). lowest b (bit_xor c m)) (ap₂ encrypt (ap number key_is) (ap number counter_is)) (ap number block_is)
 
 -- ANY CIPHER
-
-outputs-refreshing : (n : ℕ) → length (refreshing n).outputs ≡ n
-unfolding size_of
-outputs-refreshing n = ap (λ (s : Size). s.outputs) (size-refreshing n)
 
 -- how the circuit of a cipher is used, with keys and blocks of so many bytes
 abbrev mode : Netlist → ℕ → ℕ → (List ℕ → List Bool) → ℕ → Mode

@@ -2,7 +2,6 @@
 use Rattle.std.proofs.Common.{◌≡◌, ℕ, suc, ◌+◌, ◌-◌, ◌*◌, ◌/◌, ◌%◌, ◌<◌, ◌≤◌, Bool, true, false, List, [], ◌∷◌, ◌++◌, length, map, get_or, refl, sym, ap, ap₂, ◌∙◌, arith}
 use Rattle.std.specs.Prelude.{slice_index}
 use Rattle.std.proofs.lemmas.List.{get_or-append_right, get_or_append_left}
-use mir.Val.{bool_byte}
 use Rattle.mask_bits.specs.Reading.{bit, low, high}
 use Rattle.mask_modes.proofs.Readings.{bytes_are_read}
 
@@ -15,10 +14,6 @@ map_same f g (x ∷ xs) [] d e long same = absurd (omega (arith, long))
 map_same {A} {B} {C} f g (x ∷ xs) (y ∷ ys) d e long same =
     ap₂ (λ (z : C) (zs : List C). z ∷ zs) (same 0 (omega arith))
     (map_same f g xs ys d e (omega (arith, long)) (λ k lt. same (suc k) (omega (arith, lt))))
-
-pub bit_of_bool : (b : Bool) → bit 0 (bool_byte b) ≡ b
-bit_of_bool true = refl
-bit_of_bool false = refl
 
 -- where the bit of weight 2 ^ j of a little-endian number stands, and of a big-endian one
 pub low_bit_is : (bytes : List ℕ) (j : ℕ) → j < 8 * length bytes → bit (j % 8) (slice_index bytes (j / 8)) ≡ get_or (low bytes) j false

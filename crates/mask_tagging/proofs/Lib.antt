@@ -2,4 +2,4 @@ pub mod ChaskeyEvaluations
 pub mod ChaskeyPieces
 pub mod LightMacBlocks
 pub mod LightMacEvaluations
-pub mod LightMacStopping
+pub mod Stopping

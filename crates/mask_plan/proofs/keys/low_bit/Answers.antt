@@ -1,6 +1,7 @@
 use Rattle.std.proofs.Common.{◌%◌, ap, ◌∙◌}
 use Rattle.mask_bits.specs.Reading.{bit}
-use Rattle.mask_plan.proofs.Bits.{bit_of_bool, low_bit_is}
+use Rattle.mask_chain.proofs.BitWords.{bit_of_bool}
+use Rattle.mask_plan.proofs.Bits.{low_bit_is}
 use Rattle.mask_plan.proofs.keys.low_bit.Goals as goal
 
 pub returns : goal.returns

@@ -10,7 +10,7 @@ use Rattle.mask_trace.specs.Drawing.{Ran, stand}
 use Rattle.mask_macs.specs.ChaskeyRuns.{ahead, end_step}
 use Rattle.mask_chain.specs.Chains.{have}
 use Rattle.mask_tagging.specs.Tagging.{Between, Interrupted, code_of}
-use Rattle.mask_tagging.proofs.LightMacStopping.{interrupted}
+use Rattle.mask_tagging.proofs.Stopping.{interrupted}
 use Rattle.mask_chaskey.specs.declared.doubling.End.{End}
 use Rattle.mask_chaskey.specs.declared.doubling.End.TheVariants.{Short}
 use Rattle.mask_chaskey.specs.Chaskey.{end_of}

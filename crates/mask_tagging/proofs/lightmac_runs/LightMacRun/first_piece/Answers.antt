@@ -14,7 +14,7 @@ use Rattle.mask_macs.proofs.LightMacPlans.{step_outputs}
 use Rattle.mask_chain.specs.Chains.{have}
 use Rattle.mask_tagging.specs.Tagging.{Between, Interrupted, code_of}
 use Rattle.mask_tagging.proofs.LightMacEvaluations.{first_is, first_strong, one_there, suits}
-use Rattle.mask_tagging.proofs.LightMacStopping.{interrupted}
+use Rattle.mask_tagging.proofs.Stopping.{interrupted}
 use Rattle.mask_tagging.proofs.lightmac_runs.LightMacRun.first_piece.Goals as goal
 
 pub take-requires : goal.take-requires

@@ -11,7 +11,7 @@ use Rattle.mask_macs.proofs.LightMacPlans.{end_outputs}
 use Rattle.mask_chain.specs.Chains.{have}
 use Rattle.mask_tagging.specs.Tagging.{Between, Interrupted, code_of}
 use Rattle.mask_tagging.proofs.LightMacEvaluations.{end_is, end_strong, none_there, suits, two_there}
-use Rattle.mask_tagging.proofs.LightMacStopping.{interrupted}
+use Rattle.mask_tagging.proofs.Stopping.{interrupted}
 use Rattle.mask_tagging.proofs.lightmac_runs.LightMacRun.last_piece.Goals as goal
 
 pub take-requires : goal.take-requires

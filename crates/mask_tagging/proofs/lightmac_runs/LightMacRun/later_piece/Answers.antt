@@ -13,7 +13,7 @@ use Rattle.mask_macs.proofs.LightMacPlans.{step_outputs}
 use Rattle.mask_chain.specs.Chains.{have}
 use Rattle.mask_tagging.specs.Tagging.{Between, Interrupted, code_of}
 use Rattle.mask_tagging.proofs.LightMacEvaluations.{ahead_later, later_is, later_strong, none_there, one_there, refresh_is, suits}
-use Rattle.mask_tagging.proofs.LightMacStopping.{interrupted}
+use Rattle.mask_tagging.proofs.Stopping.{interrupted}
 use Rattle.mask_tagging.proofs.lightmac_runs.LightMacRun.later_piece.Goals as goal
 
 pub take_two-requires : goal.take_two-requires

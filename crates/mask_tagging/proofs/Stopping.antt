@@ -1,4 +1,4 @@
--- Where the tape fails in the next piece of LightMAC.
+-- Where the tape fails in the next piece of a code.
 use Rattle.std.proofs.Common.{◌≡◌, ℕ, Bool, List, [], ◌∷◌, ◌++◌, subst}
 use Rattle.mask_trace.specs.Steps.{Registers, Step}
 use Rattle.mask_trace.specs.Traces.{BitShares}
