@@ -90,7 +90,7 @@ module _ (task : Task) (N : ℕ) (lines : List (List ℕ)) (bytes : List ℕ) (o
 
   Streams-late : (status : Status) → Streams task N lines bytes o status → IsLate (Some (longest_message task)) bytes o.left_after status
   Streams-late status h =
-      elim (ciphertext_or_tag task N lines bytes o status h) [ | inl ciphertext ↦ out-late status ciphertext | inr tag ↦ tag-late status tag ]
+      elim (ciphertext_or_tag task N lines bytes o status h) [ inl ciphertext ↦ out-late status ciphertext | inr tag ↦ tag-late status tag ]
 
 -- a run that makes its own input has no fault of a key file or an input
 pub RunsItself-unread : (seed N count : ℕ) (o : Outside) (status : Status) → RunsItself seed N count o status →

@@ -37,7 +37,7 @@ returns-in-Enc-clause-ends g c =
 
 pub returns-in-Mac-clause-ends : goal.returns-in-Mac-clause-ends
 returns-in-Mac-clause-ends g c =
-    let run = c.enc.ensures.ends in
+    let run = c.enc-in-Mac.ensures.ends in
     rw c.in-Mac.is
     (record { keys = run.keys; keys_taken = run.keys_taken; bytes = run.bytes; taken = run.taken; ends = run.ends; costs = run.counted; asks = tt })
 
@@ -89,7 +89,7 @@ returns-in-Enc-clause-secure g c =
 
 pub returns-in-Mac-clause-secure : goal.returns-in-Mac-clause-secure
 returns-in-Mac-clause-secure g c =
-    let told = c.enc.ensures.secure in
+    let told = c.enc-in-Mac.ensures.secure in
     let order = rw c.in-Mac.is at c.requires.order in
     TellsSecureCalls-strong c.in-Mac.order _ _ order.0 order.1 told.0 told.1 told.2
 
