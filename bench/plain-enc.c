@@ -5,9 +5,7 @@
  *
  * CIPHER is present-80 or lea-128, ORDER is 1, 3 or 7, KEYS and TAPE are files, and CIRCUIT and REFRESH are what `emit` writes for the
  * cipher and for a refresh of its key. The message has whole batches of 64 blocks. Status 2 says that something is wrong. */
-#include <stdio.h>
-#include <string.h>
-#include "plain-words.h"
+#include "plain-circuits.h"
 
 /* The most bits of a key and of a block, and the most bytes of a batch. */
 enum { KEY = 128, BLOCK = 128, LANES = 64, BATCH = 1024 };
@@ -22,36 +20,6 @@ static size_t batch(const struct cipher *cipher) { return LANES * cipher->block 
 
 /* Which byte of so many bits this one is, in the order of reading. */
 static int place(const struct cipher *cipher, int bits, int byte) { return cipher->first_byte_first ? byte : bits / 8 - 1 - byte; }
-
-static FILE *open_file(const char *path) {
-  FILE *file = fopen(path, "rb");
-  if (!file) exit(2);
-  return file;
-}
-
-static void read_bytes(FILE *file, unsigned char *bytes, size_t count) {
-  if (fread(bytes, 1, count, file) != count) exit(2);
-}
-
-/* The circuit of a text of version 1 that has no comments. */
-static struct circuit read_circuit(const char *path) {
-  static const char *names[] = {"xor", "not", "ref", "and", "zero", "one"};
-  FILE *file = open_file(path);
-  struct circuit c = {.gates = room(40000 * sizeof *c.gates), .output = room(40000 * sizeof *c.output)};
-  char line[64], name[8];
-  uint32_t u, v;
-  if (!fgets(line, sizeof line, file) || !fgets(line, sizeof line, file) || sscanf(line, "inputs %d", &c.inputs) != 1) exit(2);
-  while (fgets(line, sizeof line, file) && strcmp(line, "end\n")) {
-    u = v = 0;
-    if (sscanf(line, "%7s %u %u", name, &u, &v) < 1 || c.count == 40000) exit(2);
-    if (!strcmp(name, "out")) { c.output[c.outputs++] = u; continue; }
-    enum kind kind = XOR;
-    while (strcmp(name, names[kind])) if (kind++ == ONE) exit(2);
-    c.gates[c.count++] = (struct gate){kind, u, v};
-  }
-  fclose(file);
-  return c;
-}
 
 /* Bit j of row i becomes bit i of row j (Warren, Hacker's Delight, section 7-3). */
 static void transpose(word rows[64]) {
@@ -108,12 +76,6 @@ static void draw(FILE *tape, unsigned char *bytes, int lanes, size_t count, word
     transpose(rows);
     memcpy(coins + first, rows, (count - first < 64 ? count - first : 64) * sizeof *coins);
   }
-}
-
-static int coin_count(const struct circuit *c, int pairs) {
-  int count = 0;
-  for (int k = 0; k < c->count; k++) count += (c->gates[k].kind == REF || c->gates[k].kind == AND) * pairs;
-  return count;
 }
 
 #define EACH "plain-blocks.h"

@@ -5,7 +5,8 @@
 typedef uint64_t word;
 enum kind { XOR, NOT, REF, AND, ZERO, ONE };
 struct gate { enum kind kind; uint32_t left, right; };
-struct circuit { int inputs, count, outputs; struct gate *gates; uint32_t *output; };
+/* `random` says how many of the gates draw coins. */
+struct circuit { int inputs, count, random, outputs; struct gate *gates; uint32_t *output; };
 
 /* No compiler may move an operation, or merge it with another, across this. */
 #define KEEP(x) __asm__ volatile("" : "+r"(x))
