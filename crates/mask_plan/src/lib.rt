@@ -30,5 +30,3 @@ mod tasks;
 pub use mask_tasks::{KeySize, Task, key_length};
 pub use session::{PlanError, Session, Stop};
 
-#[cfg(test)]
-mod tests;
