@@ -29,4 +29,3 @@ mod tasks;
 
 pub use mask_tasks::{KeySize, Task, key_length};
 pub use session::{PlanError, Session, Stop};
-
